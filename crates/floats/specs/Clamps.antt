@@ -1,0 +1,44 @@
+-- A clamp keeps within its ends, whatever goes in; so do the larger and the smaller of two values, and a choice of two that both keep.
+use mathlib.Core.Bool.{Bool, true, false, not, cond}
+use lib.Dec.{T}
+use lib.Ieee.{Float, lt, le}
+use Rattle.floats.specs.Definitions.{clamp}
+use Rattle.floats.specs.Order.{number, lt→le, le-rf, nlt→le, le→number, Within}
+
+-- ---- `clamp`, on any x
+pub clamp-within : (x lo hi : Float) → T (le lo hi) → Within (clamp x lo hi) lo hi
+unfolding clamp
+clamp-within x lo hi h = go (le x hi) (le lo x) (λ (t : T (le x hi)). t) (λ (t : T (le lo x)). t)
+  where
+    go : (a b : Bool) → (T a → T (le x hi)) → (T b → T (le lo x)) → Within (cond a (cond b x lo) hi) lo hi
+    go true true u v = (v tt, u tt)
+    go true false u v = (le-rf lo (le→number lo hi h .0), h)
+    go false b u v = (h, le-rf hi (le→number lo hi h .1))
+
+-- ---- the source's `clip`, on no NaN
+pub clip-within : (x lo hi : Float) → T (number x) → T (le lo hi) → Within (cond (lt x lo) lo (cond (lt hi x) hi x)) lo hi
+clip-within x lo hi p h = go (lt x lo) (lt hi x) (nlt→le x lo p (le→number lo hi h .0)) (nlt→le hi x (le→number lo hi h .1) p)
+  where
+    go : (a b : Bool) → (T (not a) → T (le lo x)) → (T (not b) → T (le x hi)) → Within (cond a lo (cond b hi x)) lo hi
+    go true b u v = (le-rf lo (le→number lo hi h .0), h)
+    go false true u v = (h, le-rf hi (le→number lo hi h .1))
+    go false false u v = (u tt, v tt)
+
+-- `max(lo, x)` and `min(x, hi)`, a NaN going to the end
+pub at-least : (x lo : Float) → T (number lo) → T (le lo (cond (lt lo x) x lo))
+at-least x lo p = go (lt lo x) (lt→le lo x)
+  where
+    go : (b : Bool) → (T b → T (le lo x)) → T (le lo (cond b x lo))
+    go true h = h tt
+    go false h = le-rf lo p
+
+pub at-most : (x hi : Float) → T (number hi) → T (le (cond (lt x hi) x hi) hi)
+at-most x hi p = go (lt x hi) (lt→le x hi)
+  where
+    go : (b : Bool) → (T b → T (le x hi)) → T (le (cond b x hi) hi)
+    go true h = h tt
+    go false h = le-rf hi p
+
+pub cond-within : (b : Bool) (x y lo hi : Float) → Within x lo hi → Within y lo hi → Within (cond b x y) lo hi
+cond-within true x y lo hi v w = v
+cond-within false x y lo hi v w = w

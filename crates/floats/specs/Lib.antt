@@ -1,0 +1,13 @@
+pub mod Notation
+pub mod Definitions
+pub mod Fractions
+pub mod Order
+pub mod Clamps
+pub mod Rounding
+pub mod Sums
+pub mod Products
+pub mod Quotients
+pub mod SelfDifference
+pub mod Intervals
+pub mod Kept
+pub mod Relative

@@ -1,0 +1,59 @@
+// Small functions on floats that everything above uses.
+ghost use mathlib.Core.Path.{_≡_};
+ghost use lib.Ieee.Scale.{finite};
+ghost use Rattle.floats.specs.Definitions.{magnitude, clamp, larger, smaller};
+
+pub fn magnitude(x: f64) -> f64
+    ensures { λ r. ⌜ r ≡ magnitude x ⌝ }
+{
+    if x < 0.0 {
+        -x
+    } else if x == 0.0 {
+        0.0
+    } else {
+        x
+    }
+}
+
+// Neither a NaN nor an infinity.
+pub fn finite(x: f64) -> bool
+    ensures { λ r. ⌜ r ≡ finite x ⌝ }
+{
+    x - x == 0.0
+}
+
+// x between lo and hi; a NaN goes to hi.
+pub fn clamp(x: f64, lo: f64, hi: f64) -> f64
+    ensures { λ r. ⌜ r ≡ clamp x lo hi ⌝ }
+{
+    if x <= hi {
+        if lo <= x { x } else { lo }
+    } else {
+        hi
+    }
+}
+
+// A NaN gives way to the other value; of two that are equal the first is kept.
+pub fn larger(x: f64, y: f64) -> f64
+    ensures { λ r. ⌜ r ≡ larger x y ⌝ }
+{
+    if x < y {
+        y
+    } else if x == x {
+        x
+    } else {
+        y
+    }
+}
+
+pub fn smaller(x: f64, y: f64) -> f64
+    ensures { λ r. ⌜ r ≡ smaller x y ⌝ }
+{
+    if y < x {
+        y
+    } else if x == x {
+        x
+    } else {
+        y
+    }
+}

@@ -1,0 +1,54 @@
+-- The part of q * q + q from 2 ^ 52 up, by halves of 26 bits, as `is_above` computes it.
+use mathlib.Core.Path.{_≡_, sym, ap, _∙_, subst}
+use mathlib.Core.Bool.{Bool}
+use Prim.Native.Nat.{ℕ, suc, _+_, _*_, _/_, _%_, _^_, _≤_, _<_}
+use native.Mathlib.Nat.{mul-le-mul, le-of-lt, le-of-suc-le-suc, lt-of-not-le, div-add-mod', le-refl, mod-lt}
+use native.Mathlib.Omega.{arith}
+use native.Mathlib.Decide.{decLe}
+use borrow.Author.Tests.{lt-ltb, le-ltb}
+use lib.Dec.{ltb, lit<}
+use lib.Pow.{pow-pos}
+use lib.Bits.{bitAnd, and-mask}
+use mir.Syntax.{w64}
+use mir.Val.{Fits}
+
+abbrev pub upper : ℕ → ℕ → ℕ → ℕ
+upper a b q = a * a + (2 * a * b + (b * b + q) / 67108864) / 67108864
+
+under : (a b c : ℕ) → b < 67108864 → upper a b (a * 67108864 + b) < c → (a * 67108864 + b) * (a * 67108864 + b) + (a * 67108864 + b) < c * 4503599627370496
+under a b c B h = omega arith
+
+over : (a b c : ℕ) → b < 67108864 → c ≤ upper a b (a * 67108864 + b) → c * 4503599627370496 ≤ (a * 67108864 + b) * (a * 67108864 + b) + (a * 67108864 + b)
+over a b c B h = omega arith
+
+at : (a b c : ℕ) → b < 67108864 → ltb (upper a b (a * 67108864 + b)) c ≡ ltb ((a * 67108864 + b) * (a * 67108864 + b) + (a * 67108864 + b)) (c * 2 ^ 52)
+at a b c B = go (decLe c (upper a b (a * 67108864 + b)))
+  where
+    go : Dec (c ≤ upper a b (a * 67108864 + b)) → ltb (upper a b (a * 67108864 + b)) c ≡ ltb ((a * 67108864 + b) * (a * 67108864 + b) + (a * 67108864 + b)) (c * 2 ^ 52)
+    go (yes h) = le-ltb _ _ h ∙ sym (le-ltb _ _ (over a b c B h))
+    go (no g) = lt-ltb _ _ (lt-of-not-le g) ∙ sym (lt-ltb _ _ (under a b c B (lt-of-not-le g)))
+
+pub upper-is : (q c : ℕ) → ltb (upper (q / 67108864) (bitAnd q 67108863) q) c ≡ ltb (q * q + q) (c * 2 ^ 52)
+upper-is q c =
+    ap (λ (b : ℕ). ltb (upper (q / 67108864) b q) c) (and-mask q 26)
+    ∙ subst (λ (z : ℕ). ltb (upper (q / 67108864) (q % 67108864) z) c ≡ ltb (z * z + z) (c * 2 ^ 52)) (div-add-mod' q 67108864) (at (q / 67108864) (q % 67108864) c (mod-lt q (lit< tt)))
+
+-- the products fit
+
+pub mask-small : (q : ℕ) → bitAnd q 67108863 < 67108864
+mask-small q = subst (λ (z : ℕ). z < 67108864) (sym (and-mask q 26)) (mod-lt q (lit< tt))
+
+pub low-square : (q : ℕ) → bitAnd q 67108863 * bitAnd q 67108863 ≤ 67108864 * 67108864
+low-square q = mul-le-mul (le-of-lt (mask-small q)) (le-of-lt (mask-small q))
+
+pub cross : (q : ℕ) → q ≤ 2 ^ 53 → q / 67108864 * bitAnd q 67108863 ≤ 134217728 * 67108864
+cross q h = mul-le-mul high (le-of-lt (mask-small q))
+  where
+    high : q / 67108864 ≤ 134217728
+    high = omega arith
+
+pub high-square : (q : ℕ) → q ≤ 2 ^ 53 → q / 67108864 * (q / 67108864) ≤ 134217728 * 134217728
+high-square q h = mul-le-mul high high
+  where
+    high : q / 67108864 ≤ 134217728
+    high = omega arith
