@@ -1,7 +1,7 @@
 -- How the definitions write a rounded operation and a constant, so that a line of a definition reads like the source's line at any format.
 -- `open Rounded (rounded w) using (_⊕_, _⊖_, _⊗_, _⊘_)` in a section over the format w brings the four operations.
-use Prim.Native.Nat.{ℕ}
-use lib.Ieee.{Float, Format, binary32, binary64, add, sub, mul, div, ofBits}
+use Prim.Native.Nat.{ℕ, _*_}
+use lib.Ieee.{Float, nan, inf, fin, Format, binary32, binary64, up, down, round, add, sub, mul, div, ofBits}
 
 pub record Rounded : Type 0 where
   infixl 60 _⊕_
@@ -36,3 +36,16 @@ two = constant 0x4000_0000 0x4000_0000_0000_0000
 -- the values nearest to π
 abbrev pub pi : Format → Float
 pi = constant 0x4049_0fdb 0x4009_21fb_5444_2d18
+
+-- the source's casts from `Float` to `f64` and back. One type of values serves both formats, so the first changes nothing; the second rounds to the format
+abbrev pub wide : Float → Float
+wide x = x
+
+abbrev pub single : Float → Float
+single nan = nan
+single (inf s) = inf s
+single (fin s m e) = round binary32 s (m * up e) (down e)
+
+abbrev pub narrow : Format → Float → Float
+narrow binary32 x = single x
+narrow binary64 x = x
