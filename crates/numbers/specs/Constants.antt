@@ -2,29 +2,29 @@
 use mathlib.Core.Bool.{Bool, _&&_}
 use lib.Ieee.{Float, binary64, ofBits, le}
 
--- ---- the domains: sine and cosine from -ANGLE_LIMIT to ANGLE_LIMIT, 128; the tangent from 0 to TAN_LIMIT, 0.75; the exponential from -EXP_LIMIT, 10000, to 0
+-- ---- the domains: sine and cosine from -ANGLE-LIMIT to ANGLE-LIMIT, 128; the tangent from 0 to TAN-LIMIT, 0.75; the exponential from -EXP-LIMIT, 10000, to 0
 abbrev pub between : Float → Float → Float → Bool
 between x lo hi = le lo x && le x hi
 
-abbrev pub ANGLE_LIMIT : Float
-ANGLE_LIMIT = ofBits binary64 0x4060_0000_0000_0000
+abbrev pub ANGLE-LIMIT : Float
+ANGLE-LIMIT = ofBits binary64 0x4060_0000_0000_0000
 
-abbrev pub TAN_LIMIT : Float
-TAN_LIMIT = ofBits binary64 0x3fe8_0000_0000_0000
+abbrev pub TAN-LIMIT : Float
+TAN-LIMIT = ofBits binary64 0x3fe8_0000_0000_0000
 
-abbrev pub EXP_LIMIT : Float
-EXP_LIMIT = ofBits binary64 0x40c3_8800_0000_0000
+abbrev pub EXP-LIMIT : Float
+EXP-LIMIT = ofBits binary64 0x40c3_8800_0000_0000
 
--- up to NEAR, 0.785, an angle is its own remainder; below -EXP_FLOOR, -708, the exponential gives 0
+-- up to NEAR, 0.785, an angle is its own remainder; below -EXP-FLOOR, -708, the exponential gives 0
 abbrev pub NEAR : Float
 NEAR = ofBits binary64 0x3fe9_1eb8_51eb_851f
 
-abbrev pub EXP_FLOOR : Float
-EXP_FLOOR = ofBits binary64 0x4086_2000_0000_0000
+abbrev pub EXP-FLOOR : Float
+EXP-FLOOR = ofBits binary64 0x4086_2000_0000_0000
 
 -- ---- the reduction: two over pi, pi/2 in three parts of which the first two have 45 bits, and 1.5 * 2^52, which rounds to a whole number what is added to it
-abbrev pub TWO_OVER_PI : Float
-TWO_OVER_PI = ofBits binary64 0x3fe4_5f30_6dc9_c883
+abbrev pub TWO-OVER-PI : Float
+TWO-OVER-PI = ofBits binary64 0x3fe4_5f30_6dc9_c883
 
 abbrev pub P1 : Float
 P1 = ofBits binary64 0x3ff9_21fb_5444_2d00
@@ -85,8 +85,8 @@ L1 = ofBits binary64 0x3fe6_2e42_fefa_3800
 abbrev pub L2 : Float
 L2 = ofBits binary64 0x3d2e_f357_93c7_6730
 
-abbrev pub EXP_MAGIC : Float
-EXP_MAGIC = ofBits binary64 0x4338_0000_0000_03ff
+abbrev pub EXP-MAGIC : Float
+EXP-MAGIC = ofBits binary64 0x4338_0000_0000_03ff
 
 abbrev pub E0 : Float
 E0 = ofBits binary64 0x3fe0_0000_0000_0000
@@ -122,14 +122,14 @@ E9 = ofBits binary64 0x3e5a_d27e_c834_3448
 abbrev pub PI : Float
 PI = ofBits binary64 0x4009_21fb_5444_2d18
 
-abbrev pub PI_LO : Float
-PI_LO = ofBits binary64 0x3ca1_a626_3314_5c07
+abbrev pub PI-LO : Float
+PI-LO = ofBits binary64 0x3ca1_a626_3314_5c07
 
 abbrev pub PIO2 : Float
 PIO2 = ofBits binary64 0x3ff9_21fb_5444_2d18
 
-abbrev pub PIO2_LO : Float
-PIO2_LO = ofBits binary64 0x3c91_a626_3314_5c07
+abbrev pub PIO2-LO : Float
+PIO2-LO = ofBits binary64 0x3c91_a626_3314_5c07
 
 -- ---- `kasin`
 abbrev pub A0 : Float

@@ -3,9 +3,8 @@ use mathlib.Core.Bool.{cond}
 use lib.Ieee.{Float, nan, Format, binary64, ofBits, neg, eq}
 use Rattle.floats.specs.Notation.{Rounded, rounded, zero, half, one, narrow}
 use Rattle.floats.specs.Definitions.{clamp}
-use Rattle.numbers.specs.Constants.{between, ANGLE_LIMIT, TAN_LIMIT, NEAR, TWO_OVER_PI, P1, P2, P3, MAGIC, S0, S1, S2, S3, S4, S5, C0, C1, C2, C3, C4, C5}
+use Rattle.numbers.specs.Constants.{between, ANGLE-LIMIT, TAN-LIMIT, NEAR, TWO-OVER-PI, P1, P2, P3, MAGIC, S0, S1, S2, S3, S4, S5, C0, C1, C2, C3, C4, C5}
 use Rattle.numbers.specs.declared.sines.Reduced.{Reduced}
-
 open Rounded (rounded binary64) using (_⊕_, _⊖_, _⊗_, _⊘_)
 
 abbrev 𝟎 : Float
@@ -32,14 +31,14 @@ kcos r d =
 -- ---- an angle as k quarter turns and r - d: k is the whole number nearest to x * 2 / pi, and m is k mod 4, from -2 to 2
 unfoldable pub reduce : Float → Reduced
 reduce x =
-    let k = x ⊗ TWO_OVER_PI ⊕ MAGIC ⊖ MAGIC in
+    let k = x ⊗ TWO-OVER-PI ⊕ MAGIC ⊖ MAGIC in
     let a = x ⊖ k ⊗ P1 in
     let b = k ⊗ P2 in
     let r = a ⊖ b in
     record {
       m = k ⊖ ofBits binary64 0x4010_0000_0000_0000 ⊗ (k ⊗ ofBits binary64 0x3fd0_0000_0000_0000 ⊕ MAGIC ⊖ MAGIC);
       r = r;
-      d = k ⊗ P3 ⊕ (b ⊖ (a ⊖ r))
+      d = k ⊗ P3 ⊕ (b ⊖ (a ⊖ r));
     }
 
 -- sine and cosine of an angle so written
@@ -59,15 +58,15 @@ cosineOf t =
 unfoldable pub sine : Float → Float
 sine x =
     cond (between x (neg NEAR) NEAR) (clamp (ksin x 𝟎) (neg 𝟏) 𝟏)
-    (cond (between x (neg ANGLE_LIMIT) ANGLE_LIMIT) (clamp (sineOf (reduce x)) (neg 𝟏) 𝟏) nan)
+    (cond (between x (neg ANGLE-LIMIT) ANGLE-LIMIT) (clamp (sineOf (reduce x)) (neg 𝟏) 𝟏) nan)
 
 unfoldable pub cosine : Float → Float
 cosine x =
     cond (between x (neg NEAR) NEAR) (clamp (kcos x 𝟎) (neg 𝟏) 𝟏)
-    (cond (between x (neg ANGLE_LIMIT) ANGLE_LIMIT) (clamp (cosineOf (reduce x)) (neg 𝟏) 𝟏) nan)
+    (cond (between x (neg ANGLE-LIMIT) ANGLE-LIMIT) (clamp (cosineOf (reduce x)) (neg 𝟏) 𝟏) nan)
 
 unfoldable pub tan : Float → Float
-tan x = cond (between x 𝟎 TAN_LIMIT) (clamp (ksin x 𝟎 ⊘ kcos x 𝟎) 𝟎 𝟏) nan
+tan x = cond (between x 𝟎 TAN-LIMIT) (clamp (ksin x 𝟎 ⊘ kcos x 𝟎) 𝟎 𝟏) nan
 
 abbrev pub sin : Format → Float → Float
 sin w x = narrow w (sine x)

@@ -2,8 +2,27 @@
 ghost use mathlib.Core.Path.{_≡_};
 ghost use lib.Ieee.{binary64};
 ghost use Rattle.numbers.specs.Sines.{ksin, kcos, reduce, sineOf, cosineOf, sin, cos, tan};
-
-use crate::constants::{ANGLE_LIMIT, C0, C1, C2, C3, C4, C5, MAGIC, NEAR, P1, P2, P3, S0, S1, S2, S3, S4, S5, TAN_LIMIT, TWO_OVER_PI, nan};
+use crate::constants::ANGLE_LIMIT;
+use crate::constants::C0;
+use crate::constants::C1;
+use crate::constants::C2;
+use crate::constants::C3;
+use crate::constants::C4;
+use crate::constants::C5;
+use crate::constants::MAGIC;
+use crate::constants::NEAR;
+use crate::constants::P1;
+use crate::constants::P2;
+use crate::constants::P3;
+use crate::constants::S0;
+use crate::constants::S1;
+use crate::constants::S2;
+use crate::constants::S3;
+use crate::constants::S4;
+use crate::constants::S5;
+use crate::constants::TAN_LIMIT;
+use crate::constants::TWO_OVER_PI;
+use crate::constants::nan;
 
 // sin(r - d), for an r within ±0.7855 and a d that is small beside it.
 fn ksin(r: f64, d: f64) -> f64
