@@ -1,0 +1,4 @@
+pub mod Vectors
+pub mod Quaternions
+pub mod Matrices
+pub mod Values
