@@ -1,0 +1,127 @@
+// Which settings and setter values are taken. Ends are included, a NaN is outside, and -0 counts as 0.
+ghost use mathlib.Core.Path.{_≡_};
+ghost use lib.Ieee.{binary64};
+ghost use Rattle.limits.specs.Limits.{tau-taken, tau-or-off-taken, gain-tau-taken, sigma-taken, vertical-factor-taken, forgetting-time-taken, threshold-taken, duration-taken, norm-threshold-taken, dip-threshold-taken, min-gyr-taken, rejection-factor-taken, bias-taken, ref-norm-taken, ref-dip-taken};
+use crate::sample::all_within;
+use crate::sample::within;
+use algebra::Vector;
+
+const LONGEST: f64 = 10000.0;
+
+const LEAST_TAU: f64 = 0.0001;
+
+const SIGMA_LIMIT: f64 = 100.0;
+
+const LEAST_FORGETTING_TIME: f64 = 0.1;
+
+const LEAST_THRESHOLD: f64 = 0.0001;
+
+const THRESHOLD_LIMIT: f64 = 90.0;
+
+const NORM_THRESHOLD_LIMIT: f64 = 10.0;
+
+const DIP_THRESHOLD_LIMIT: f64 = 180.0;
+
+const MIN_GYR_LIMIT: f64 = 1000.0;
+
+const REJECTION_FACTOR_LIMIT: f64 = 1000.0;
+
+const BIAS_LIMIT: f64 = 2.0;
+
+const REF_NORM_LIMIT: f64 = 2000000.0;
+
+const REF_DIP_LIMIT: f64 = 1.6;
+
+// The time constant of a filter that runs at the interval ts.
+pub fn tau_taken(tau: f64, ts: f64) -> bool
+    ensures { λ r. ⌜ r ≡ tau-taken binary64 ts tau ⌝ }
+{
+    within(tau, ts, LONGEST)
+}
+
+// A time constant, or 0 and below: -10000 to 0, or from least up.
+pub fn tau_or_off_taken(tau: f64, least: f64) -> bool
+    ensures { λ r. ⌜ r ≡ tau-or-off-taken binary64 least tau ⌝ }
+{
+    within(tau, -LONGEST, 0.0) | within(tau, least, LONGEST)
+}
+
+pub fn gain_tau_taken(tau: f64) -> bool
+    ensures { λ r. ⌜ r ≡ gain-tau-taken binary64 tau ⌝ }
+{
+    tau_or_off_taken(tau, LEAST_TAU)
+}
+
+pub fn sigma_taken(sigma: f64) -> bool
+    ensures { λ r. ⌜ r ≡ sigma-taken binary64 sigma ⌝ }
+{
+    within(sigma, 0.0, SIGMA_LIMIT)
+}
+
+pub fn vertical_factor_taken(factor: f64) -> bool
+    ensures { λ r. ⌜ r ≡ vertical-factor-taken binary64 factor ⌝ }
+{
+    within(factor, 0.0, 1.0)
+}
+
+pub fn forgetting_time_taken(t: f64) -> bool
+    ensures { λ r. ⌜ r ≡ forgetting-time-taken binary64 t ⌝ }
+{
+    within(t, LEAST_FORGETTING_TIME, LONGEST)
+}
+
+// The bias clip and both rest thresholds.
+pub fn threshold_taken(th: f64) -> bool
+    ensures { λ r. ⌜ r ≡ threshold-taken binary64 th ⌝ }
+{
+    within(th, LEAST_THRESHOLD, THRESHOLD_LIMIT)
+}
+
+pub fn duration_taken(t: f64) -> bool
+    ensures { λ r. ⌜ r ≡ duration-taken binary64 t ⌝ }
+{
+    within(t, 0.0, LONGEST)
+}
+
+pub fn norm_threshold_taken(th: f64) -> bool
+    ensures { λ r. ⌜ r ≡ norm-threshold-taken binary64 th ⌝ }
+{
+    within(th, 0.0, NORM_THRESHOLD_LIMIT)
+}
+
+pub fn dip_threshold_taken(th: f64) -> bool
+    ensures { λ r. ⌜ r ≡ dip-threshold-taken binary64 th ⌝ }
+{
+    within(th, 0.0, DIP_THRESHOLD_LIMIT)
+}
+
+pub fn min_gyr_taken(gyr: f64) -> bool
+    ensures { λ r. ⌜ r ≡ min-gyr-taken binary64 gyr ⌝ }
+{
+    within(gyr, 0.0, MIN_GYR_LIMIT)
+}
+
+pub fn rejection_factor_taken(factor: f64) -> bool
+    ensures { λ r. ⌜ r ≡ rejection-factor-taken binary64 factor ⌝ }
+{
+    within(factor, 1.0, REJECTION_FACTOR_LIMIT)
+}
+
+// What `set_bias_estimate` takes for a bias.
+pub fn bias_taken(bias: Vector) -> bool
+    ensures { λ r. ⌜ r ≡ bias-taken binary64 bias ⌝ }
+{
+    all_within(bias, BIAS_LIMIT)
+}
+
+pub fn ref_norm_taken(norm: f64) -> bool
+    ensures { λ r. ⌜ r ≡ ref-norm-taken binary64 norm ⌝ }
+{
+    within(norm, 0.0, REF_NORM_LIMIT)
+}
+
+pub fn ref_dip_taken(dip: f64) -> bool
+    ensures { λ r. ⌜ r ≡ ref-dip-taken binary64 dip ⌝ }
+{
+    within(dip, -REF_DIP_LIMIT, REF_DIP_LIMIT)
+}
