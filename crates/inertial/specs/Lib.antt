@@ -1,0 +1,4 @@
+pub mod Told
+pub mod Gyr
+pub mod Kalman
+pub mod Acc
