@@ -1,4 +1,15 @@
 // Roots, angles and the exponential, each a fixed order of binary64 operations.
+pub mod arcs;
+mod constants;
+pub mod exponential;
 pub mod roots;
+pub mod sines;
 
+pub use crate::arcs::acos;
+pub use crate::arcs::asin;
+pub use crate::arcs::atan2;
+pub use crate::exponential::exp;
 pub use crate::roots::sqrt;
+pub use crate::sines::cos;
+pub use crate::sines::sin;
+pub use crate::sines::tan;
