@@ -4,6 +4,7 @@ use lib.Ieee.{Float, Format, lt}
 use lib.Ieee.Scale as scale
 use Rattle.floats.specs.Notation.{Rounded, rounded, zero, one, two}
 use Rattle.numbers.specs.Root.{root}
+use Rattle.numbers.specs.Sines.{sin, cos}
 use Rattle.algebra.specs.Vectors.{epsilon, vector}
 use Rattle.algebra.specs.declared.vector.Vector.{Vector}
 use Rattle.algebra.specs.declared.quaternion.Quaternion.{Quaternion}
@@ -44,6 +45,16 @@ module _ (w : Format) where
       (two w ⊗ v .0 ⊗ (q .3 ⊗ q .1 ⊖ q .0 ⊗ q .2)
       ⊕ two w ⊗ v .1 ⊗ (q .0 ⊗ q .1 ⊕ q .3 ⊗ q .2)
       ⊕ v .2 ⊗ (one w ⊖ two w ⊗ q .1 ⊗ q .1 ⊖ two w ⊗ q .2 ⊗ q .2))
+
+  unfoldable pub apply-delta : Quaternion → Float → Quaternion
+  apply-delta q delta =
+      let c = cos w (delta ⊘ two w) in
+      let s = sin w (delta ⊘ two w) in
+      quaternion
+      (c ⊗ q .0 ⊖ s ⊗ q .3)
+      (c ⊗ q .1 ⊖ s ⊗ q .2)
+      (c ⊗ q .2 ⊕ s ⊗ q .1)
+      (c ⊗ q .3 ⊕ s ⊗ q .0)
 
 unfoldable pub finite : Quaternion → Bool
 finite q = scale.finite (q .0) && scale.finite (q .1) && scale.finite (q .2) && scale.finite (q .3)

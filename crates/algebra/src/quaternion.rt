@@ -1,6 +1,6 @@
 ghost use mathlib.Core.Path.{_≡_};
 ghost use lib.Ieee.{binary64};
-ghost use Rattle.algebra.specs.Quaternions.{times, norm, normalize, rotate, finite};
+ghost use Rattle.algebra.specs.Quaternions.{times, norm, normalize, rotate, apply-delta, finite};
 use crate::vector::EPSILON;
 use crate::vector::Vector;
 
@@ -49,6 +49,18 @@ impl Quaternion {
             + 2.0 * v.1 * (self.0 * self.1 + self.3 * self.2)
             + v.2 * (1.0 - 2.0 * self.1 * self.1 - 2.0 * self.2 * self.2);
         Vector(x, y, z)
+    }
+
+    pub fn apply_delta(self, delta: f64) -> Quaternion
+        ensures { λ r. ⌜ r ≡ apply-delta binary64 self delta ⌝ }
+    {
+        let c = numbers::cos(delta / 2.0);
+        let s = numbers::sin(delta / 2.0);
+        let w = c * self.0 - s * self.3;
+        let x = c * self.1 - s * self.2;
+        let y = c * self.2 + s * self.1;
+        let z = c * self.3 + s * self.0;
+        Quaternion(w, x, y, z)
     }
 
     pub fn finite(self) -> bool

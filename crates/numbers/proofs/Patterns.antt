@@ -9,12 +9,11 @@ use lib.Ieee.{Float, nan, inf, fin, Format, binary64, hid, ones, top, odd, ofFie
 use lib.Ieee.Bits.{ofBits-toBits}
 use lib.Ieee.Fits.{and-l, and-r}
 use lib.Ieee.Scale.{finite}
-use Rattle.floats.specs.Notation.{zero as zero·}
 use Rattle.floats.specs.Fractions.{sign}
 use Rattle.floats.specs.Intervals.{known, none, var, lit, add·, mul·, bound, is-finite}
-use Rattle.numbers.specs.Constants.{between, EXP-FLOOR, EXP-MAGIC, LOG2E}
+use Rattle.numbers.specs.Constants.{𝟎, between, EXP-FLOOR, EXP-MAGIC, LOG2E}
 use Rattle.numbers.specs.Exponential.{shifted}
-use Rattle.numbers.specs.Domains.{inside→within}
+use Rattle.numbers.specs.Domains.{between→within}
 
 finite-no-nan : (x : Float) → T (finite x) → T (not (isNan x))
 unfolding isNan
@@ -66,6 +65,6 @@ field-no-nan b = subst (λ (d : ℕ). T (not (eqb (b % 2 ^ 11 * 2 ^ 52 % top bin
     last false = tt
 
 -- ---- the argument of `power`
-pub shifted-no-nan : (x : Float) → between x (neg EXP-FLOOR) (zero· binary64) ≡ true → T (not (isNan (shifted x)))
+pub shifted-no-nan : (x : Float) → between x (neg EXP-FLOOR) 𝟎 ≡ true → T (not (isNan (shifted x)))
 unfolding bound ofBits neg
-shifted-no-nan x h = finite-no-nan (shifted x) (is-finite binary64 (known x (neg EXP-FLOOR) (zero· binary64) (inside→within x (neg EXP-FLOOR) (zero· binary64) h) none) (add· (mul· (var 0) (lit LOG2E)) (lit EXP-MAGIC)) tt)
+shifted-no-nan x h = finite-no-nan (shifted x) (is-finite binary64 (known x (neg EXP-FLOOR) 𝟎 (between→within x (neg EXP-FLOOR) 𝟎 (subst T (sym h) tt)) none) (add· (mul· (var 0) (lit LOG2E)) (lit EXP-MAGIC)) tt)

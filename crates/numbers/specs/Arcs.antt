@@ -2,19 +2,13 @@
 use mathlib.Core.Bool.{cond, _&&_}
 use lib.Ieee.{Float, nan, Format, binary64, neg, lt, eq, le}
 use lib.Ieee.Scale.{finite}
-use Rattle.floats.specs.Notation.{Rounded, rounded, zero, half, one, narrow}
+use Rattle.floats.specs.Notation.{Rounded, rounded, half, narrow}
 use Rattle.floats.specs.Fractions.{sign}
 use Rattle.floats.specs.Definitions.{magnitude, clamp}
-use Rattle.numbers.specs.Constants.{between, PI, PI-LO, PIO2, PIO2-LO, A0, A1, A2, A3, A4, A5, A6, A7, A8, A9, A10, A11, T0, T1, T2, T3, T4, T5, T6, T7, T8, T9, T10, T11, T12, T13, T14, T15, T16, T17, T18, T19}
+use Rattle.numbers.specs.Constants.{𝟎, 𝟏, between, PI, PI-LO, PIO2, PIO2-LO, A0, A1, A2, A3, A4, A5, A6, A7, A8, A9, A10, A11, T0, T1, T2, T3, T4, T5, T6, T7, T8, T9, T10, T11, T12, T13, T14, T15, T16, T17, T18, T19}
 use Rattle.numbers.specs.Root.{root}
 use Rattle.numbers.specs.declared.arcs.Half.{Half}
 open Rounded (rounded binary64) using (_⊕_, _⊖_, _⊗_, _⊘_)
-
-abbrev 𝟎 : Float
-𝟎 = zero binary64
-
-abbrev 𝟏 : Float
-𝟏 = one binary64
 
 -- ---- arc sine and arc cosine
 -- (asin s - s) / s, for a z of s * s, from 0 to 0.25

@@ -1,6 +1,13 @@
 -- The constants of the recipes, each by its bits. docs/NUMBERS.md has them in decimal.
 use mathlib.Core.Bool.{Bool, _&&_}
 use lib.Ieee.{Float, binary64, ofBits, le}
+use Rattle.floats.specs.Notation.{zero, one, pi}
+
+abbrev pub 𝟎 : Float
+𝟎 = zero binary64
+
+abbrev pub 𝟏 : Float
+𝟏 = one binary64
 
 -- ---- the domains: sine and cosine from -ANGLE-LIMIT to ANGLE-LIMIT, 128; the tangent from 0 to TAN-LIMIT, 0.75; the exponential from -EXP-LIMIT, 10000, to 0
 abbrev pub between : Float → Float → Float → Bool
@@ -120,7 +127,7 @@ E9 = ofBits binary64 0x3e5a_d27e_c834_3448
 
 -- ---- pi and pi/2, and what each lacks
 abbrev pub PI : Float
-PI = ofBits binary64 0x4009_21fb_5444_2d18
+PI = pi binary64
 
 abbrev pub PI-LO : Float
 PI-LO = ofBits binary64 0x3ca1_a626_3314_5c07

@@ -1,10 +1,10 @@
 -- The exponential: a fixed order of binary64 operations. At another format the result is rounded once more.
-use mathlib.Core.Bool.{cond, _&&_}
+use mathlib.Core.Bool.{cond}
 use Prim.Native.Nat.{_*_, _%_, _^_}
-use lib.Ieee.{Float, nan, Format, binary64, ofBits, toBits, neg, lt, le}
-use Rattle.floats.specs.Notation.{Rounded, rounded, zero, one, narrow}
+use lib.Ieee.{Float, nan, Format, binary64, ofBits, toBits, neg}
+use Rattle.floats.specs.Notation.{Rounded, rounded, narrow}
 use Rattle.floats.specs.Definitions.{clamp}
-use Rattle.numbers.specs.Constants.{between, EXP-LIMIT, EXP-FLOOR, LOG2E, L1, L2, EXP-MAGIC, E0, E1, E2, E3, E4, E5, E6, E7, E8, E9}
+use Rattle.numbers.specs.Constants.{𝟎, 𝟏, between, EXP-LIMIT, EXP-FLOOR, LOG2E, L1, L2, EXP-MAGIC, E0, E1, E2, E3, E4, E5, E6, E7, E8, E9}
 open Rounded (rounded binary64) using (_⊕_, _⊖_, _⊗_, _⊘_)
 
 -- e ^ r, for an r within ±0.3466
@@ -16,7 +16,7 @@ kexp r =
     let b = (E4 ⊕ r ⊗ E5) ⊕ z ⊗ (E6 ⊕ r ⊗ E7) in
     let c = E8 ⊕ r ⊗ E9 in
     let q = a ⊕ w ⊗ (b ⊕ w ⊗ c) in
-    one binary64 ⊕ (r ⊕ z ⊗ q)
+    𝟏 ⊕ (r ⊕ z ⊗ q)
 
 -- 2 ^ k, for a t of k + EXP-MAGIC and a k from -1022 to 1023: the last eleven bits of t are k + 1023, and they become the exponent's field
 unfoldable pub power : Float → Float
@@ -31,8 +31,8 @@ exponential x =
     let t = shifted x in
     let k = t ⊖ EXP-MAGIC in
     let r = x ⊖ k ⊗ L1 ⊖ k ⊗ L2 in
-    cond (between x (neg EXP-FLOOR) (zero binary64)) (clamp (kexp r ⊗ power t) (zero binary64) (one binary64))
-    (cond (le (neg EXP-LIMIT) x && lt x (neg EXP-FLOOR)) (zero binary64) nan)
+    cond (between x (neg EXP-FLOOR) 𝟎) (clamp (kexp r ⊗ power t) 𝟎 𝟏)
+    (cond (between x (neg EXP-LIMIT) 𝟎) 𝟎 nan)
 
 abbrev pub exp : Format → Float → Float
 exp w x = narrow w (exponential x)

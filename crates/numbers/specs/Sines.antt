@@ -1,17 +1,11 @@
 -- Sine, cosine and tangent: fixed orders of binary64 operations. At another format the result is rounded once more.
 use mathlib.Core.Bool.{cond}
 use lib.Ieee.{Float, nan, Format, binary64, ofBits, neg, eq}
-use Rattle.floats.specs.Notation.{Rounded, rounded, zero, half, one, narrow}
+use Rattle.floats.specs.Notation.{Rounded, rounded, half, narrow}
 use Rattle.floats.specs.Definitions.{clamp}
-use Rattle.numbers.specs.Constants.{between, ANGLE-LIMIT, TAN-LIMIT, NEAR, TWO-OVER-PI, P1, P2, P3, MAGIC, S0, S1, S2, S3, S4, S5, C0, C1, C2, C3, C4, C5}
+use Rattle.numbers.specs.Constants.{𝟎, 𝟏, between, ANGLE-LIMIT, TAN-LIMIT, NEAR, TWO-OVER-PI, P1, P2, P3, MAGIC, S0, S1, S2, S3, S4, S5, C0, C1, C2, C3, C4, C5}
 use Rattle.numbers.specs.declared.sines.Reduced.{Reduced}
 open Rounded (rounded binary64) using (_⊕_, _⊖_, _⊗_, _⊘_)
-
-abbrev 𝟎 : Float
-𝟎 = zero binary64
-
-abbrev 𝟏 : Float
-𝟏 = one binary64
 
 -- ---- the kernels: sine and cosine of r - d, for an r within ±0.7855 and a d that is small beside it
 unfoldable pub ksin : Float → Float → Float

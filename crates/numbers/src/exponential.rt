@@ -51,7 +51,7 @@ pub fn exp(x: f64) -> f64
         let k = t - EXP_MAGIC;
         let r = (x - k * L1) - k * L2;
         floats::clamp(kexp(r) * power(t), 0.0, 1.0)
-    } else if (-EXP_LIMIT <= x) & (x < -EXP_FLOOR) {
+    } else if (-EXP_LIMIT <= x) & (x <= 0.0) {
         0.0
     } else {
         nan()
