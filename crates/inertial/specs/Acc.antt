@@ -22,7 +22,8 @@ use Rattle.inertial.specs.declared.types.Rest.{Rest}
 use Rattle.inertial.specs.declared.types.RestParams.{RestParams}
 use Rattle.inertial.specs.declared.types.Inertial.{Inertial}
 use Rattle.inertial.specs.declared.gyr.TriedRest.{TriedRest}
-use Rattle.inertial.specs.declared.acc.Inclined.{Inclined}
+use Rattle.inertial.specs.declared.acc.TriedInclination.{TriedInclination}
+use Rattle.inertial.specs.declared.kalman.TriedBias.{TriedBias}
 
 -- the value nearest to 1e-6
 abbrev pub least-q-w : Format → Float
@@ -42,6 +43,12 @@ finite-inclination i =
     && finite (i .«last_acc_lp»)
     && finite-channels 3 (i .«acc_lp_state»)
     && scale.finite (i .«last_acc_corr_angular_rate»)
+
+-- what the three parts of a step leave: 5 comes before 6
+unfoldable pub acc-settled : Inertial → TriedRest → TriedInclination → TriedBias → Told Inertial
+acc-settled f r i b =
+    cond (b .singular) (told 5 f)
+    (if-finite (r .finite && i .finite && b .finite) (with-state f (state-of (i .inclination) (b .bias) (r .rest))) f)
 
 module _ (w : Format) where
   open Rounded (rounded w) using (_⊕_, _⊖_, _⊗_, _⊘_)
@@ -104,11 +111,11 @@ module _ (w : Format) where
       (quaternion q-w (half w ⊗ v .1 ⊘ q-w) (neg (half w) ⊗ v .0 ⊘ q-w) (zero w))
       (quaternion (zero w) (one w) (zero w) (one w))
 
-  unfoldable pub inclined : Inclination → Float → Float → Coeffs → Vector → Inclined
+  unfoldable pub inclined : Inclination → Float → Float → Coeffs → Vector → TriedInclination
   inclined i tau ts k acc =
       let lp = acc-lowpassed i tau ts k acc in
       let acc-earth = normalize w (rotate w (lp .«acc_quat») (lp .«last_acc_lp»)) in
-      let next = record {
+      let next : Inclination = record {
         «gyr_quat» = lp .«gyr_quat»;
         «acc_quat» = quaternions.normalize w (times w (acc-correction acc-earth) (lp .«acc_quat»));
         «last_acc_lp» = lp .«last_acc_lp»;
@@ -117,14 +124,12 @@ module _ (w : Format) where
       } in
       record { finite = finite-inclination next; inclination = next; «acc_earth» = acc-earth }
 
-  -- 5 comes before 6
   unfoldable pub acc-step : Inertial → Vector → Told Inertial
   acc-step f acc =
       let r = acc-rest (f .state .rest) (f .params .rest) (f .coeffs .«acc_ts») (f .coeffs .«rest_acc_lp») acc in
       let i = inclined (f .state .inclination) (f .params .«tau_acc») (f .coeffs .«acc_ts») (f .coeffs .«acc_lp») acc in
       let b = bias-step w (f .state .bias) (f .params) (f .coeffs) (i .inclination) (r .rest) (i .«acc_earth») in
-      cond (b .singular) (told 5 f)
-      (if-finite (r .finite && i .finite && b .finite) (with-state f (state-of (i .inclination) (b .bias) (r .rest))) f)
+      acc-settled f r i b
 
   unfoldable pub update-acc : Inertial → Vector → Told Inertial
   update-acc f acc = cond (acc-taken w acc) (cond (zero-sample w acc) (told 1 f) (acc-step f acc)) (told 2 f)

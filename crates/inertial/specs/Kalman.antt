@@ -15,18 +15,18 @@ use Rattle.algebra.specs.declared.matrix.Inverse.{Inverse}
 use Rattle.algebra.specs.declared.matrix.Inverse.the-variants as inverse
 use Rattle.filters.specs.Banks.{filter-vec2, filter-vec9, finite-channels}
 use Rattle.filters.specs.declared.coeffs.Coeffs.{Coeffs}
-use Rattle.inertial.specs.Gyr.{radians}
+use Rattle.inertial.specs.Gyr.{square, radians}
 use Rattle.inertial.specs.declared.types.Bias.{Bias}
 use Rattle.inertial.specs.declared.types.BiasCoefficients.{BiasCoefficients}
 use Rattle.inertial.specs.declared.types.Inclination.{Inclination}
 use Rattle.inertial.specs.declared.types.InertialParams.{InertialParams}
 use Rattle.inertial.specs.declared.types.InertialCoefficients.{InertialCoefficients}
 use Rattle.inertial.specs.declared.types.Rest.{Rest}
-use Rattle.inertial.specs.declared.kalman.Smoothed.{Smoothed}
+use Rattle.inertial.specs.declared.kalman.Smooth.{Smooth}
 use Rattle.inertial.specs.declared.kalman.Measurement.{Measurement}
 use Rattle.inertial.specs.declared.kalman.Estimate.{Estimate}
-use Rattle.inertial.specs.declared.kalman.Estimated.{Estimated}
-use Rattle.inertial.specs.declared.kalman.Estimated.the-variants.{Singular, Next}
+use Rattle.inertial.specs.declared.kalman.KalmanStep.{KalmanStep}
+use Rattle.inertial.specs.declared.kalman.KalmanStep.the-variants.{Singular, Next}
 use Rattle.inertial.specs.declared.kalman.TriedBias.{TriedBias}
 
 unfoldable pub finite-bias : Bias → Bool
@@ -51,7 +51,7 @@ with-diagonal m d =
     }
 
 -- the group after the filters and the estimate
-unfoldable pub updated-bias : Bias → Smoothed → Estimated → TriedBias
+unfoldable pub updated-bias : Bias → Smooth → KalmanStep → TriedBias
 updated-bias b s Singular = record { singular = true; finite = true; bias = b }
 updated-bias b s (Next n) =
     let next : Bias = record {
@@ -67,22 +67,21 @@ module _ (w : Format) where
 
   unfoldable pub rotation : Quaternion → Matrix
   rotation q =
-      let square = λ (x : Float). x ⊗ x in
       rows
       (vector
-      (one w ⊖ two w ⊗ square (q .2) ⊖ two w ⊗ square (q .3))
+      (one w ⊖ two w ⊗ square w (q .2) ⊖ two w ⊗ square w (q .3))
       (two w ⊗ (q .2 ⊗ q .1 ⊖ q .0 ⊗ q .3))
       (two w ⊗ (q .0 ⊗ q .2 ⊕ q .3 ⊗ q .1)))
       (vector
       (two w ⊗ (q .0 ⊗ q .3 ⊕ q .2 ⊗ q .1))
-      (one w ⊖ two w ⊗ square (q .1) ⊖ two w ⊗ square (q .3))
+      (one w ⊖ two w ⊗ square w (q .1) ⊖ two w ⊗ square w (q .3))
       (two w ⊗ (q .2 ⊗ q .3 ⊖ q .1 ⊗ q .0)))
       (vector
       (two w ⊗ (q .3 ⊗ q .1 ⊖ q .0 ⊗ q .2))
       (two w ⊗ (q .0 ⊗ q .1 ⊕ q .3 ⊗ q .2))
-      (one w ⊖ two w ⊗ square (q .1) ⊖ two w ⊗ square (q .2)))
+      (one w ⊖ two w ⊗ square w (q .1) ⊖ two w ⊗ square w (q .2)))
 
-  unfoldable pub smoothed : Bias → Matrix → Float → Float → Coeffs → Smoothed
+  unfoldable pub smoothed : Bias → Matrix → Float → Float → Coeffs → Smooth
   smoothed b r tau ts k =
       let v = b .bias in
       let x = r .m00 ⊗ v .0 ⊕ r .m01 ⊗ v .1 ⊕ r .m02 ⊗ v .2 in
@@ -108,7 +107,7 @@ module _ (w : Format) where
   unfoldable pub unmeasured : Matrix → Measurement
   unmeasured r = record { e = vector (zero w) (zero w) (zero w); w = vector (neg (one w)) (neg (one w)) (neg (one w)); r = r }
 
-  unfoldable pub measured : Smoothed → InertialParams → InertialCoefficients → Rest → Vector → Vector → Measurement
+  unfoldable pub measured : Smooth → InertialParams → InertialCoefficients → Rest → Vector → Vector → Measurement
   measured s p k rest acc-earth bias =
       cond (rest .«rest_detected» && p .rest .«rest_bias_est_enabled»)
       (at-rest (rest .«rest_last_gyr_lp») bias (k .bias .«bias_rest_w»))
@@ -144,13 +143,13 @@ module _ (w : Format) where
   unfoldable pub shrunk : Matrix → Matrix → Matrix → Matrix
   shrunk p k r = minus w p (times w (times w k r) p)
 
-  abbrev pub by-inverse : Vector → Matrix → Measurement → Float → Inverse → Estimated
+  abbrev pub by-inverse : Vector → Matrix → Measurement → Float → Inverse → KalmanStep
   by-inverse bias p m c inverse.Singular = Singular
   by-inverse bias p m c (inverse.Inverted i) =
       let k = gain p (m .r) i in
       Next (record { bias = clip (neg c) c (shifted bias k (clip (neg c) c (m .e))); «bias_p» = shrunk p k (m .r) })
 
-  unfoldable pub estimated : Vector → Matrix → Measurement → Float → Estimated
+  unfoldable pub estimated : Vector → Matrix → Measurement → Float → KalmanStep
   estimated bias p m c =
       cond (le (zero w) (m .w .0))
       (by-inverse bias p m c (invert w (innovation p (m .r) (m .w))))

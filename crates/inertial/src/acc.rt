@@ -2,10 +2,11 @@
 ghost use mathlib.Core.Path.{_≡_};
 ghost use lib.Ieee.{binary64};
 ghost use Rattle.inertial.specs.Told.{told-of};
-ghost use Rattle.inertial.specs.Acc.{acc-filtered, counted, finite-acc-rest, acc-rest, acc-lowpassed, acc-correction, finite-inclination, inclined, acc-step, update-acc};
+ghost use Rattle.inertial.specs.Acc.{acc-filtered, counted, finite-acc-rest, acc-rest, acc-lowpassed, acc-correction, finite-inclination, inclined, acc-settled, acc-step, update-acc};
 use crate::gyr::TriedRest;
 use crate::gyr::broken;
 use crate::gyr::squared_deviation;
+use crate::kalman::TriedBias;
 use crate::kalman::bias_step;
 use crate::types::Inclination;
 use crate::types::Inertial;
@@ -19,7 +20,7 @@ use filters::Coeffs;
 use limits::Answer;
 
 // The inclination after a sample, and the sample in the earth frame, of length 1, before the correction.
-pub struct Inclined {
+pub struct TriedInclination {
     pub finite: bool,
     pub inclination: Inclination,
     pub acc_earth: Vector,
@@ -131,7 +132,7 @@ fn finite_inclination(i: Inclination) -> bool
 }
 
 // The inclination correction.
-pub fn inclined(i: Inclination, tau: f64, ts: f64, coeffs: Coeffs, acc: Vector) -> Inclined
+pub fn inclined(i: Inclination, tau: f64, ts: f64, coeffs: Coeffs, acc: Vector) -> TriedInclination
     ensures { λ r. ⌜ r ≡ inclined binary64 i tau ts coeffs acc ⌝ }
 {
     let lp = acc_lowpassed(i, tau, ts, coeffs, acc);
@@ -144,7 +145,7 @@ pub fn inclined(i: Inclination, tau: f64, ts: f64, coeffs: Coeffs, acc: Vector) 
     inclination.acc_quat = next_quat;
     inclination.last_acc_corr_angular_rate = rate;
     let finite = finite_inclination(inclination);
-    Inclined {
+    TriedInclination {
         finite,
         inclination,
         acc_earth,
@@ -152,6 +153,38 @@ pub fn inclined(i: Inclination, tau: f64, ts: f64, coeffs: Coeffs, acc: Vector) 
 }
 
 impl Inertial {
+    // What the three parts of a step leave: 5 comes before 6.
+    fn acc_settled(self, r: TriedRest, i: TriedInclination, b: TriedBias) -> Updated
+        ensures { λ u. ⌜ told-of u ≡ acc-settled self r i b ⌝ }
+    {
+        if b.singular {
+            Updated {
+                answer: Answer::Singular,
+                inertial: self,
+            }
+        } else if r.finite & i.finite & b.finite {
+            let inclination = i.inclination;
+            let bias = b.bias;
+            let rest = r.rest;
+            let state = InertialState {
+                inclination,
+                bias,
+                rest,
+            };
+            let mut inertial = self;
+            inertial.state = state;
+            Updated {
+                answer: Answer::Done,
+                inertial,
+            }
+        } else {
+            Updated {
+                answer: Answer::NotFinite,
+                inertial: self,
+            }
+        }
+    }
+
     // The step on a sample that is taken and is not all zero.
     fn acc_step(self, acc: Vector) -> Updated
         ensures { λ r. ⌜ told-of r ≡ acc-step binary64 self acc ⌝ }
@@ -171,30 +204,7 @@ impl Inertial {
         let coeffs = self.coeffs;
         let bias = self.state.bias;
         let tried_bias = bias_step(bias, params, coeffs, next_inclination, next_rest, acc_earth);
-        if tried_bias.singular {
-            Updated {
-                answer: Answer::Singular,
-                inertial: self,
-            }
-        } else if tried_rest.finite & tried_inclination.finite & tried_bias.finite {
-            let next_bias = tried_bias.bias;
-            let state = InertialState {
-                inclination: next_inclination,
-                bias: next_bias,
-                rest: next_rest,
-            };
-            let mut inertial = self;
-            inertial.state = state;
-            Updated {
-                answer: Answer::Done,
-                inertial,
-            }
-        } else {
-            Updated {
-                answer: Answer::NotFinite,
-                inertial: self,
-            }
-        }
+        self.acc_settled(tried_rest, tried_inclination, tried_bias)
     }
 
     pub fn update_acc(self, acc: Vector) -> Updated

@@ -17,7 +17,7 @@ use filters::Channel;
 use filters::Coeffs;
 
 // The rotation matrix and the first two components of the rotated bias, low-pass filtered.
-pub struct Smoothed {
+pub struct Smooth {
     pub r: Matrix,
     pub bias_lp: [f64; 2],
     pub rlp_state: [Channel; 9],
@@ -36,7 +36,7 @@ pub struct Estimate {
     pub bias_p: Matrix,
 }
 
-pub enum Estimated {
+pub enum KalmanStep {
     // A matrix has no inverse.
     Singular,
     Next(Estimate),
@@ -65,7 +65,7 @@ fn rotation(q: Quaternion) -> Matrix
     }
 }
 
-fn smoothed(b: Bias, r: Matrix, tau: f64, ts: f64, coeffs: Coeffs) -> Smoothed
+fn smoothed(b: Bias, r: Matrix, tau: f64, ts: f64, coeffs: Coeffs) -> Smooth
     ensures { λ s. ⌜ s ≡ smoothed binary64 b r tau ts coeffs ⌝ }
 {
     let v = b.bias;
@@ -80,7 +80,7 @@ fn smoothed(b: Bias, r: Matrix, tau: f64, ts: f64, coeffs: Coeffs) -> Smoothed
     let bias_lp = g.y;
     let bias_lp_state = g.channels;
     let r = Matrix::unflatten(flat);
-    Smoothed {
+    Smooth {
         r,
         bias_lp,
         rlp_state,
@@ -177,7 +177,7 @@ fn shrunk(p: Matrix, k: Matrix, r: Matrix) -> Matrix
 }
 
 // The Kalman update from the widened covariance p; nothing is updated where nothing is measured.
-fn estimated(bias: Vector, p: Matrix, m: Measurement, clip: f64) -> Estimated
+fn estimated(bias: Vector, p: Matrix, m: Measurement, clip: f64) -> KalmanStep
     ensures { λ r. ⌜ r ≡ estimated binary64 bias p m clip ⌝ }
 {
     let w = m.w;
@@ -186,17 +186,17 @@ fn estimated(bias: Vector, p: Matrix, m: Measurement, clip: f64) -> Estimated
     if w.0 >= 0.0 {
         let inverse = innovation(p, r, w).invert();
         match inverse {
-            Inverse::Singular => Estimated::Singular,
+            Inverse::Singular => KalmanStep::Singular,
             Inverse::Inverted(i) => {
                 let k = gain(p, r, i);
                 let clipped = e.clip(-clip, clip);
                 let next = shifted(bias, k, clipped).clip(-clip, clip);
                 let bias_p = shrunk(p, k, r);
-                Estimated::Next(Estimate { bias: next, bias_p })
+                KalmanStep::Next(Estimate { bias: next, bias_p })
             }
         }
     } else {
-        Estimated::Next(Estimate { bias, bias_p: p })
+        KalmanStep::Next(Estimate { bias, bias_p: p })
     }
 }
 
@@ -214,7 +214,7 @@ fn finite_bias(b: Bias) -> bool
 }
 
 fn measured(
-    s: Smoothed,
+    s: Smooth,
     params: InertialParams,
     coeffs: InertialCoefficients,
     rest: Rest,
@@ -237,16 +237,16 @@ fn measured(
 }
 
 // The group after the filters and the estimate.
-fn updated_bias(b: Bias, s: Smoothed, estimated: Estimated) -> TriedBias
+fn updated_bias(b: Bias, s: Smooth, estimated: KalmanStep) -> TriedBias
     ensures { λ r. ⌜ r ≡ updated-bias b s estimated ⌝ }
 {
     match estimated {
-        Estimated::Singular => TriedBias {
+        KalmanStep::Singular => TriedBias {
             singular: true,
             finite: true,
             bias: b,
         },
-        Estimated::Next(n) => {
+        KalmanStep::Next(n) => {
             let rlp = s.rlp_state;
             let lp = s.bias_lp_state;
             let bias = n.bias;
