@@ -13,6 +13,7 @@ use filters::Coeffs;
 use limits::Answer;
 
 const PI: f64 = 3.141592653589793;
+
 const EPSILON: f64 = 2.220446049250313e-16;
 
 // What a step would store of a group, and whether every number of it is finite.

@@ -2,20 +2,14 @@ use Rattle.inertial.specs.Acc.{acc-correction}
 use borrow.Author.Needs.{needs}
 use Rattle.inertial.proofs.acc.acc_correction.Statement.{statement}
 use Rattle.inertial.proofs.acc.acc_correction.Tie as tie
-use Rattle.inertial.proofs.acc.acc_correction.Reads as reads
-use Rattle.inertial.proofs.acc.acc_correction.Lts as lts
-use Rattle.numbers.proofs.sqrt.Reads as sqrt-reads
 
--- src/acc.rt:108:9
 sqrt-requires : tie.Need-sqrt-requires
 sqrt-requires c κs = search needs
 
--- src/acc.rt:105:1
 returns : tie.Need-returns
 unfolding acc-correction
 returns c = simp (simp (c .before .before .before .sqrt .ensures) at (c .before .before .if1 .taken), c .before .before .before .sqrt .ensures)
 
--- src/acc.rt:105:1
 returns-2 : tie.Need-returns-2
 unfolding acc-correction
 returns-2 c = simp (simp (c .before .sqrt .ensures) at (c .if1 .left), c .before .sqrt .ensures)

@@ -2,10 +2,7 @@ use mathlib.Core.Path.{refl}
 use Rattle.inertial.specs.Acc.{counted}
 use Rattle.inertial.proofs.acc.counted.Statement.{statement}
 use Rattle.inertial.proofs.acc.counted.Tie as tie
-use Rattle.inertial.proofs.acc.counted.Reads as reads
-use Rattle.inertial.proofs.acc.counted.Lts as lts
 
--- src/acc.rt:45:1
 returns : tie.Need-returns
 unfolding counted
 returns c = refl

@@ -2,29 +2,19 @@ use Rattle.inertial.specs.Acc.{finite-acc-rest}
 use borrow.Author.Needs.{needs}
 use Rattle.inertial.proofs.acc.finite_acc_rest.Statement.{statement}
 use Rattle.inertial.proofs.acc.finite_acc_rest.Tie as tie
-use Rattle.inertial.proofs.acc.finite_acc_rest.Reads as reads
-use Rattle.inertial.proofs.acc.finite_acc_rest.Lts as lts
-use Rattle.algebra.proofs.vector.Vector.finite.Reads as vector-Vector-finite-reads
-use Rattle.filters.proofs.bank.finite_channels3.Reads as finite-channels3-reads
-use Rattle.floats.proofs.finite.Reads as finite-reads
 
--- src/acc.rt:61:5
 finite-requires : tie.Need-finite-requires
 finite-requires c κs = search needs
 
--- src/acc.rt:62:11
 finite-requires-2 : tie.Need-finite-requires-2
 finite-requires-2 c κs = search needs
 
--- src/acc.rt:63:11
 finite-requires-3 : tie.Need-finite-requires-3
 finite-requires-3 c κs = search needs
 
--- src/acc.rt:64:11
 finite-channels3-requires : tie.Need-finite-channels3-requires
 finite-channels3-requires c κs = search needs
 
--- src/acc.rt:55:1
 returns : tie.Need-returns
 unfolding finite-acc-rest
 returns c = simp (c .finite-channels3 .ensures, c .before .finite3 .ensures, c .before .before .finite2 .ensures, c .before .before .before .finite .ensures)

@@ -2,40 +2,27 @@ use Rattle.inertial.specs.Gyr.{gyr-rest}
 use borrow.Author.Needs.{needs}
 use Rattle.inertial.proofs.gyr.gyr_rest.Statement.{statement}
 use Rattle.inertial.proofs.gyr.gyr_rest.Tie as tie
-use Rattle.inertial.proofs.gyr.gyr_rest.Reads as reads
-use Rattle.inertial.proofs.gyr.gyr_rest.Lts as lts
-use Rattle.inertial.proofs.gyr.broken.Reads as broken-reads
-use Rattle.inertial.proofs.gyr.finite_gyr_rest.Reads as finite-gyr-rest-reads
-use Rattle.inertial.proofs.gyr.gyr_filtered.Reads as gyr-filtered-reads
-use Rattle.inertial.proofs.gyr.gyr_stirred.Reads as gyr-stirred-reads
 
--- src/gyr.rt:95:13
 gyr-filtered-requires : tie.Need-gyr-filtered-requires
 gyr-filtered-requires c κs = search needs
 
--- src/gyr.rt:96:13
 finite-gyr-rest-requires : tie.Need-finite-gyr-rest-requires
 finite-gyr-rest-requires c κs = search needs
 
--- src/gyr.rt:99:12
 gyr-stirred-requires : tie.Need-gyr-stirred-requires
 gyr-stirred-requires c κs = search needs
 
--- src/gyr.rt:100:17
 broken-requires : tie.Need-broken-requires
 broken-requires c κs = search needs
 
--- src/gyr.rt:91:1
 returns : tie.Need-returns
 unfolding gyr-rest
 returns c = simp (c .broken .ensures, simp (c .before .before .gyr-stirred .ensures, c .before .before .before .before .before .finite-gyr-rest .ensures, c .before .before .before .before .before .before .gyr-filtered .ensures) at (c .before .if2 .taken), c .before .before .gyr-stirred .ensures, c .before .before .before .before .before .finite-gyr-rest .ensures, c .before .before .before .before .before .before .gyr-filtered .ensures, c .before .before .before .before .before .before .before .if1 .taken)
 
--- src/gyr.rt:91:1
 returns-2 : tie.Need-returns-2
 unfolding gyr-rest
 returns-2 c = simp (simp (c .before .gyr-stirred .ensures, c .before .before .before .before .finite-gyr-rest .ensures, c .before .before .before .before .before .gyr-filtered .ensures) at (c .if2 .left), c .before .gyr-stirred .ensures, c .before .before .before .before .finite-gyr-rest .ensures, c .before .before .before .before .before .gyr-filtered .ensures, c .before .before .before .before .before .before .if1 .taken)
 
--- src/gyr.rt:91:1
 returns-3 : tie.Need-returns-3
 unfolding gyr-rest
 returns-3 c = simp (c .if1 .left)

@@ -2,32 +2,22 @@ use Rattle.inertial.specs.Gyr.{gyr-stirred}
 use borrow.Author.Needs.{needs}
 use Rattle.inertial.proofs.gyr.gyr_stirred.Statement.{statement}
 use Rattle.inertial.proofs.gyr.gyr_stirred.Tie as tie
-use Rattle.inertial.proofs.gyr.gyr_stirred.Reads as reads
-use Rattle.inertial.proofs.gyr.gyr_stirred.Lts as lts
-use Rattle.floats.proofs.magnitude.Reads as magnitude-reads
-use Rattle.inertial.proofs.gyr.radians.Reads as radians-reads
 
--- src/gyr.rt:48:9
 radians-requires : tie.Need-radians-requires
 radians-requires c κs = search needs
 
--- src/gyr.rt:49:9
 radians-requires-2 : tie.Need-radians-requires-2
 radians-requires-2 c κs = search needs
 
--- src/gyr.rt:51:12
 magnitude-requires : tie.Need-magnitude-requires
 magnitude-requires c κs = search needs
 
--- src/gyr.rt:52:12
 magnitude-requires-2 : tie.Need-magnitude-requires-2
 magnitude-requires-2 c κs = search needs
 
--- src/gyr.rt:53:12
 magnitude-requires-3 : tie.Need-magnitude-requires-3
 magnitude-requires-3 c κs = search needs
 
--- src/gyr.rt:45:1
 returns : tie.Need-returns
 unfolding gyr-stirred
 returns c = simp (c .magnitude3 .ensures, c .before .magnitude2 .ensures, c .before .before .magnitude .ensures, c .before .before .before .radians2 .ensures, c .before .before .before .before .radians .ensures)

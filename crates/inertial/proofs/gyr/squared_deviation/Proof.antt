@@ -2,10 +2,7 @@ use mathlib.Core.Path.{refl}
 use Rattle.inertial.specs.Gyr.{squared-deviation}
 use Rattle.inertial.proofs.gyr.squared_deviation.Statement.{statement}
 use Rattle.inertial.proofs.gyr.squared_deviation.Tie as tie
-use Rattle.inertial.proofs.gyr.squared_deviation.Reads as reads
-use Rattle.inertial.proofs.gyr.squared_deviation.Lts as lts
 
--- src/gyr.rt:35:1
 returns : tie.Need-returns
 unfolding squared-deviation
 returns c = refl

@@ -2,62 +2,42 @@ use Rattle.inertial.specs.Kalman.{estimated}
 use borrow.Author.Needs.{needs}
 use Rattle.inertial.proofs.kalman.estimated.Statement.{statement}
 use Rattle.inertial.proofs.kalman.estimated.Tie as tie
-use Rattle.inertial.proofs.kalman.estimated.Reads as reads
-use Rattle.inertial.proofs.kalman.estimated.Lts as lts
-use Rattle.algebra.proofs.matrix.Matrix.invert.Reads as invert-reads
-use Rattle.algebra.proofs.vector.Vector.clip.Reads as clip-reads
-use Rattle.inertial.proofs.kalman.gain.Reads as gain-reads
-use Rattle.inertial.proofs.kalman.innovation.Reads as innovation-reads
-use Rattle.inertial.proofs.kalman.shifted.Reads as shifted-reads
-use Rattle.inertial.proofs.kalman.shrunk.Reads as shrunk-reads
 
--- src/kalman.rt:187:23
 innovation-requires : tie.Need-innovation-requires
 innovation-requires c κs = search needs
 
--- src/kalman.rt:187:13
 invert-requires : tie.Need-invert-requires
 invert-requires c κs = search needs
 
--- src/kalman.rt:189:34
 enum-told : tie.Need-enum-told
 enum-told c = search needs
 
--- src/kalman.rt:190:31
 enum-known-inverse : tie.Need-enum-known-inverse
 enum-known-inverse c = search needs
 
--- src/kalman.rt:191:21
 gain-requires : tie.Need-gain-requires
 gain-requires c κs = search needs
 
--- src/kalman.rt:192:21
 clip-requires : tie.Need-clip-requires
 clip-requires c κs = search needs
 
--- src/kalman.rt:193:28
 shifted-requires : tie.Need-shifted-requires
 shifted-requires c κs = search needs
 
--- src/kalman.rt:193:21
 clip-requires-2 : tie.Need-clip-requires-2
 clip-requires-2 c κs = search needs
 
--- src/kalman.rt:194:21
 shrunk-requires : tie.Need-shrunk-requires
 shrunk-requires c κs = search needs
 
--- src/kalman.rt:180:1
 returns : tie.Need-returns
 unfolding estimated
 returns c = simp (simp (c .before .before .invert .ensures, c .before .before .before .innovation .ensures) at (c .enum-told .given .1), c .before .before .before .before .if1 .taken)
 
--- src/kalman.rt:180:1
 returns-2 : tie.Need-returns-2
 unfolding estimated
 returns-2 c = simp (c .shrunk .ensures, c .before .clip2 .ensures, c .before .before .shifted .ensures, c .before .before .before .clip .ensures, c .before .before .before .before .gain .ensures, simp (c .before .before .before .before .before .before .before .before .invert .ensures, c .before .before .before .before .before .before .before .before .before .innovation .ensures) at (c .before .before .before .before .before .before .inverse .given .1), c .before .before .before .before .before .before .before .before .before .before .if1 .taken)
 
--- src/kalman.rt:180:1
 returns-3 : tie.Need-returns-3
 unfolding estimated
 returns-3 c = simp (c .if1 .left)

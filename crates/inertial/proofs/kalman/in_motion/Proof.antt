@@ -3,18 +3,13 @@ use Rattle.inertial.specs.Kalman.{in-motion}
 use borrow.Author.Needs.{needs}
 use Rattle.inertial.proofs.kalman.in_motion.Statement.{statement}
 use Rattle.inertial.proofs.kalman.in_motion.Tie as tie
-use Rattle.inertial.proofs.kalman.in_motion.Reads as reads
-use Rattle.inertial.proofs.kalman.in_motion.Lts as lts
 
--- src/kalman.rt:110:34
 array-read-e0 : tie.Need-array-read-e0
 array-read-e0 c = search needs
 
--- src/kalman.rt:111:33
 array-read-e1 : tie.Need-array-read-e1
 array-read-e1 c = search needs
 
--- src/kalman.rt:100:1
 returns : tie.Need-returns
 unfolding in-motion
 returns c = refl

@@ -1,15 +1,11 @@
 use Rattle.inertial.specs.Kalman.{raised}
 use Rattle.inertial.proofs.kalman.raised.Statement.{statement}
 use Rattle.inertial.proofs.kalman.raised.Tie as tie
-use Rattle.inertial.proofs.kalman.raised.Reads as reads
-use Rattle.inertial.proofs.kalman.raised.Lts as lts
 
--- src/kalman.rt:127:1
 returns : tie.Need-returns
 unfolding raised
 returns c = simp (c .before .if1 .taken)
 
--- src/kalman.rt:127:1
 returns-2 : tie.Need-returns-2
 unfolding raised
 returns-2 c = simp (c .if1 .left)

@@ -1,20 +1,15 @@
 use Rattle.inertial.specs.Acc.{acc-settled}
 use Rattle.inertial.proofs.types.Inertial.acc_settled.Statement.{statement}
 use Rattle.inertial.proofs.types.Inertial.acc_settled.Tie as tie
-use Rattle.inertial.proofs.types.Inertial.acc_settled.Reads as reads
-use Rattle.inertial.proofs.types.Inertial.acc_settled.Lts as lts
 
--- src/acc.rt:157:5
 returns : tie.Need-returns
 unfolding acc-settled
 returns c = simp (c .if1 .taken)
 
--- src/acc.rt:157:5
 returns-2 : tie.Need-returns-2
 unfolding acc-settled
 returns-2 c = simp (c .before .before .before .if2 .taken, c .before .before .before .before .before .before .before .if1 .left)
 
--- src/acc.rt:157:5
 returns-3 : tie.Need-returns-3
 unfolding acc-settled
 returns-3 c = simp (c .if2 .left, c .before .before .before .before .if1 .left)

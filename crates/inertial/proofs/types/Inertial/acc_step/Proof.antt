@@ -2,30 +2,19 @@ use Rattle.inertial.specs.Acc.{acc-step}
 use borrow.Author.Needs.{needs}
 use Rattle.inertial.proofs.types.Inertial.acc_step.Statement.{statement}
 use Rattle.inertial.proofs.types.Inertial.acc_step.Tie as tie
-use Rattle.inertial.proofs.types.Inertial.acc_step.Reads as reads
-use Rattle.inertial.proofs.types.Inertial.acc_step.Lts as lts
-use Rattle.inertial.proofs.acc.acc_rest.Reads as acc-rest-reads
-use Rattle.inertial.proofs.acc.inclined.Reads as inclined-reads
-use Rattle.inertial.proofs.kalman.bias_step.Reads as bias-step-reads
-use Rattle.inertial.proofs.types.Inertial.acc_settled.Reads as acc-settled-reads
 
--- src/acc.rt:196:13
 acc-rest-requires : tie.Need-acc-rest-requires
 acc-rest-requires c κs = search needs
 
--- src/acc.rt:199:13
 inclined-requires : tie.Need-inclined-requires
 inclined-requires c κs = search needs
 
--- src/acc.rt:206:13
 bias-step-requires : tie.Need-bias-step-requires
 bias-step-requires c κs = search needs
 
--- src/acc.rt:207:9
 acc-settled-requires : tie.Need-acc-settled-requires
 acc-settled-requires c κs = search needs
 
--- src/acc.rt:189:5
 returns : tie.Need-returns
 unfolding acc-step
 returns c = simp (c .acc-settled .ensures, c .before .bias-step .ensures, c .before .before .before .before .before .before .before .before .inclined .ensures, c .before .before .before .before .before .before .before .before .before .before .before .acc-rest .ensures)

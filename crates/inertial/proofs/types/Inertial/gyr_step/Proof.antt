@@ -2,25 +2,17 @@ use Rattle.inertial.specs.Gyr.{gyr-step}
 use borrow.Author.Needs.{needs}
 use Rattle.inertial.proofs.types.Inertial.gyr_step.Statement.{statement}
 use Rattle.inertial.proofs.types.Inertial.gyr_step.Tie as tie
-use Rattle.inertial.proofs.types.Inertial.gyr_step.Reads as reads
-use Rattle.inertial.proofs.types.Inertial.gyr_step.Lts as lts
-use Rattle.inertial.proofs.gyr.gyr_rest.Reads as gyr-rest-reads
-use Rattle.inertial.proofs.gyr.predicted.Reads as predicted-reads
 
--- src/gyr.rt:144:13
 gyr-rest-requires : tie.Need-gyr-rest-requires
 gyr-rest-requires c κs = search needs
 
--- src/gyr.rt:147:13
 predicted-requires : tie.Need-predicted-requires
 predicted-requires c κs = search needs
 
--- src/gyr.rt:138:5
 returns : tie.Need-returns
 unfolding gyr-step
 returns c = simp (simp (c .before .before .before .before .before .before .before .predicted .ensures, c .before .before .before .before .before .before .before .before .before .before .gyr-rest .ensures) at (c .before .before .before .before .if1 .taken), c .before .before .before .before .before .before .before .predicted .ensures, c .before .before .before .before .before .before .before .before .before .before .gyr-rest .ensures)
 
--- src/gyr.rt:138:5
 returns-2 : tie.Need-returns-2
 unfolding gyr-step
 returns-2 c = simp (simp (c .before .before .before .predicted .ensures, c .before .before .before .before .before .before .gyr-rest .ensures) at (c .if1 .left), c .before .before .before .predicted .ensures, c .before .before .before .before .before .before .gyr-rest .ensures)

@@ -2,35 +2,24 @@ use Rattle.inertial.specs.Acc.{update-acc}
 use borrow.Author.Needs.{needs}
 use Rattle.inertial.proofs.types.Inertial.update_acc.Statement.{statement}
 use Rattle.inertial.proofs.types.Inertial.update_acc.Tie as tie
-use Rattle.inertial.proofs.types.Inertial.update_acc.Reads as reads
-use Rattle.inertial.proofs.types.Inertial.update_acc.Lts as lts
-use Rattle.inertial.proofs.types.Inertial.acc_step.Reads as acc-step-reads
-use Rattle.limits.proofs.sample.acc_taken.Reads as acc-taken-reads
-use Rattle.limits.proofs.sample.zero_sample.Reads as zero-sample-reads
 
--- src/acc.rt:203:12
 acc-taken-requires : tie.Need-acc-taken-requires
 acc-taken-requires c κs = search needs
 
--- src/acc.rt:204:16
 zero-sample-requires : tie.Need-zero-sample-requires
 zero-sample-requires c κs = search needs
 
--- src/acc.rt:210:17
 acc-step-requires : tie.Need-acc-step-requires
 acc-step-requires c κs = search needs
 
--- src/acc.rt:200:5
 returns : tie.Need-returns
 unfolding update-acc
 returns c = simp (simp (c .before .zero-sample .ensures, c .before .before .before .acc-taken .ensures) at (c .if2 .taken), c .before .zero-sample .ensures, simp (c .before .before .before .acc-taken .ensures) at (c .before .before .if1 .taken), c .before .before .before .acc-taken .ensures)
 
--- src/acc.rt:200:5
 returns-2 : tie.Need-returns-2
 unfolding update-acc
 returns-2 c = simp (c .acc-step .ensures, simp (c .before .before .zero-sample .ensures, c .before .before .before .before .acc-taken .ensures) at (c .before .if2 .left), c .before .before .zero-sample .ensures, simp (c .before .before .before .before .acc-taken .ensures) at (c .before .before .before .if1 .taken), c .before .before .before .before .acc-taken .ensures)
 
--- src/acc.rt:200:5
 returns-3 : tie.Need-returns-3
 unfolding update-acc
 returns-3 c = simp (simp (c .before .acc-taken .ensures) at (c .if1 .left), c .before .acc-taken .ensures)

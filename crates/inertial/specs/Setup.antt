@@ -1,0 +1,150 @@
+-- The house settings, which settings are taken, and the coefficients and the fresh state that they give, over the format w.
+use mathlib.Core.Bool.{Bool, true, false, _&&_}
+use lib.ListN.{replicate}
+use lib.Ieee.{Float, Format}
+use Rattle.floats.specs.Notation.{Rounded, rounded, constant, zero, half, two}
+use Rattle.floats.specs.Definitions.{larger}
+use Rattle.algebra.specs.Vectors.{vector}
+use Rattle.algebra.specs.Quaternions.{identity}
+use Rattle.algebra.specs.Matrices.{diagonal}
+use Rattle.filters.specs.Channels.{fresh}
+use Rattle.filters.specs.Coefficients.{filter-coeffs}
+use Rattle.limits.specs.Limits.{interval-taken, tau-taken, sigma-taken, vertical-factor-taken, forgetting-time-taken, threshold-taken, duration-taken}
+use Rattle.inertial.specs.Gyr.{square}
+use Rattle.inertial.specs.declared.types.BiasCoefficients.{BiasCoefficients}
+use Rattle.inertial.specs.declared.types.BiasParams.{BiasParams}
+use Rattle.inertial.specs.declared.types.Inertial.{Inertial}
+use Rattle.inertial.specs.declared.types.InertialCoefficients.{InertialCoefficients}
+use Rattle.inertial.specs.declared.types.InertialParams.{InertialParams}
+use Rattle.inertial.specs.declared.types.InertialState.{InertialState}
+use Rattle.inertial.specs.declared.types.Rest.{Rest}
+use Rattle.inertial.specs.declared.types.RestParams.{RestParams}
+
+-- the values nearest to 3, 1.5, 100, 0.1, 0.0001, 0.03 and 1e-10
+abbrev three : Format → Float
+three = constant 0x4040_0000 0x4008_0000_0000_0000
+
+abbrev one-and-a-half : Format → Float
+one-and-a-half = constant 0x3fc0_0000 0x3ff8_0000_0000_0000
+
+abbrev hundred : Format → Float
+hundred = constant 0x42c8_0000 0x4059_0000_0000_0000
+
+abbrev tenth : Format → Float
+tenth = constant 0x3dcc_cccd 0x3fb9_9999_9999_999a
+
+abbrev ten-thousandth : Format → Float
+ten-thousandth = constant 0x38d1_b717 0x3f1a_36e2_eb1c_432d
+
+abbrev three-hundredths : Format → Float
+three-hundredths = constant 0x3cf5_c28f 0x3f9e_b851_eb85_1eb8
+
+abbrev least-factor : Format → Float
+least-factor = constant 0x2edb_e6ff 0x3ddb_7cdf_d9d7_bdbb
+
+module _ (w : Format) where
+  open Rounded (rounded w) using (_⊕_, _⊖_, _⊗_, _⊘_)
+
+  unfoldable pub house : InertialParams
+  house = record {
+    «tau_acc» = three w;
+    rest = record {
+      «rest_bias_est_enabled» = true;
+      «mag_dist_rejection_enabled» = true;
+      «bias_clip» = two w;
+      «rest_min_t» = one-and-a-half w;
+      «rest_filter_tau» = half w;
+      «rest_th_gyr» = two w;
+      «rest_th_acc» = half w;
+    };
+    bias = record {
+      «motion_bias_est_enabled» = true;
+      «bias_sigma_init» = half w;
+      «bias_forgetting_time» = hundred w;
+      «bias_sigma_motion» = tenth w;
+      «bias_vertical_forgetting_factor» = ten-thousandth w;
+      «bias_sigma_rest» = three-hundredths w;
+    };
+  }
+
+  unfoldable pub rest-params-taken : RestParams → Float → Float → Bool
+  rest-params-taken p gyr-ts acc-ts =
+      threshold-taken w (p .«bias_clip»)
+      && duration-taken w (p .«rest_min_t»)
+      && tau-taken w (larger gyr-ts acc-ts) (p .«rest_filter_tau»)
+      && threshold-taken w (p .«rest_th_gyr»)
+      && threshold-taken w (p .«rest_th_acc»)
+
+  unfoldable pub bias-params-taken : BiasParams → Bool
+  bias-params-taken p =
+      sigma-taken w (p .«bias_sigma_init»)
+      && forgetting-time-taken w (p .«bias_forgetting_time»)
+      && sigma-taken w (p .«bias_sigma_motion»)
+      && vertical-factor-taken w (p .«bias_vertical_forgetting_factor»)
+      && sigma-taken w (p .«bias_sigma_rest»)
+
+  unfoldable pub taken : InertialParams → Float → Float → Bool
+  taken p gyr-ts acc-ts =
+      interval-taken w gyr-ts
+      && interval-taken w acc-ts
+      && tau-taken w acc-ts (p .«tau_acc»)
+      && rest-params-taken (p .rest) gyr-ts acc-ts
+      && bias-params-taken (p .bias)
+
+  unfoldable pub bias-coefficients : BiasParams → Float → BiasCoefficients
+  bias-coefficients p acc-ts =
+      let bias-v = square w (tenth w ⊗ hundred w) ⊗ acc-ts ⊘ p .«bias_forgetting_time» in
+      let p-motion = square w (p .«bias_sigma_motion» ⊗ hundred w) in
+      let bias-motion-w = square w p-motion ⊘ bias-v ⊕ p-motion in
+      let p-rest = square w (p .«bias_sigma_rest» ⊗ hundred w) in
+      record {
+        «bias_p0» = square w (p .«bias_sigma_init» ⊗ hundred w);
+        «bias_v» = bias-v;
+        «bias_motion_w» = bias-motion-w;
+        «bias_vertical_w» = bias-motion-w ⊘ larger (p .«bias_vertical_forgetting_factor») (least-factor w);
+        «bias_rest_w» = square w p-rest ⊘ bias-v ⊕ p-rest;
+      }
+
+  unfoldable pub setup : InertialParams → Float → Float → InertialCoefficients
+  setup p gyr-ts acc-ts = record {
+    «gyr_ts» = gyr-ts;
+    «acc_ts» = acc-ts;
+    «acc_lp» = filter-coeffs (p .«tau_acc») acc-ts;
+    «rest_gyr_lp» = filter-coeffs (p .rest .«rest_filter_tau») gyr-ts;
+    «rest_acc_lp» = filter-coeffs (p .rest .«rest_filter_tau») acc-ts;
+    bias = bias-coefficients (p .bias) acc-ts;
+  }
+
+  unfoldable pub fresh-rest : Rest
+  fresh-rest = record {
+    «rest_detected» = false;
+    «rest_last_squared_deviations» = record { 0 = zero w; 1 = zero w };
+    «rest_t» = zero w;
+    «rest_last_gyr_lp» = vector (zero w) (zero w) (zero w);
+    «rest_gyr_lp_state» = replicate 3 fresh;
+    «rest_last_acc_lp» = vector (zero w) (zero w) (zero w);
+    «rest_acc_lp_state» = replicate 3 fresh;
+  }
+
+  unfoldable pub fresh-state : Float → InertialState
+  fresh-state p0 = record {
+    inclination = record {
+      «gyr_quat» = identity w;
+      «acc_quat» = identity w;
+      «last_acc_lp» = vector (zero w) (zero w) (zero w);
+      «acc_lp_state» = replicate 3 fresh;
+      «last_acc_corr_angular_rate» = zero w;
+    };
+    bias = record {
+      bias = vector (zero w) (zero w) (zero w);
+      «bias_p» = diagonal w p0;
+      «motion_bias_est_rlp_state» = replicate 9 fresh;
+      «motion_bias_est_bias_lp_state» = replicate 2 fresh;
+    };
+    rest = fresh-rest;
+  }
+
+  unfoldable pub new : InertialParams → Float → Float → Inertial
+  new p gyr-ts acc-ts =
+      let k = setup p gyr-ts acc-ts in
+      record { params = p; coeffs = k; state = fresh-state (k .bias .«bias_p0») }
