@@ -143,15 +143,15 @@ upper-within : (y x : Float) → Within (upper y x) 𝟎 PI
 unfolding upper
 upper-within y x = cond-within (lt (magnitude x) y) _ _ 𝟎 PI (katan-within _ _ _ _) (cond-within (sign x) _ _ 𝟎 PI (katan-within _ _ _ _) (katan-within _ _ _ _))
 
+either-side : (b : Bool) (v : Float) → Within v 𝟎 PI → Within (cond b (neg v) v) (neg PI) PI
+either-side b v w =
+    cond-within b (neg v) v (neg PI) PI
+    (widen (neg v) (neg PI) (neg 𝟎) (neg PI) PI (unfold le neg ofBits in tt) (unfold le neg ofBits in tt) (neg-within v 𝟎 PI w))
+    (widen v 𝟎 PI (neg PI) PI (unfold le neg ofBits in tt) (unfold le ofBits in tt) w)
+
 atan2-given : (y x : Float) → Given (atan2 binary64 y x) (finite y && finite x) (neg PI) PI
 unfolding angle
-atan2-given y x =
-    let v = upper (magnitude y) x in
-    let w = upper-within (magnitude y) x in
-    only (finite y && finite x) _ (neg PI) PI
-    (cond-within (sign y) (neg v) v (neg PI) PI
-    (widen (neg v) (neg PI) (neg 𝟎) (neg PI) PI (unfold le neg ofBits in tt) (unfold le neg ofBits in tt) (neg-within v 𝟎 PI w))
-    (widen v 𝟎 PI (neg PI) PI (unfold le neg ofBits in tt) (unfold le ofBits in tt) w))
+atan2-given y x = only (finite y && finite x) _ (neg PI) PI (either-side (sign y) _ (upper-within (magnitude y) x))
 
 pub atan2-within : (y x : Float) → T (finite y) → T (finite x) → Within (atan2 binary64 y x) (neg PI) PI
 atan2-within y x p q = atan2-given y x .0 (and-i (finite y) (finite x) p q)
