@@ -1,13 +1,16 @@
 -- The constants of the recipes, each by its bits. docs/NUMBERS.md has them in decimal.
 use mathlib.Core.Bool.{Bool, _&&_}
 use lib.Ieee.{Float, binary64, ofBits, le}
-use Rattle.floats.specs.Notation.{zero, one, pi}
+use Rattle.floats.specs.Notation.{zero, half, one, pi}
 
 abbrev pub 𝟎 : Float
 𝟎 = zero binary64
 
 abbrev pub 𝟏 : Float
 𝟏 = one binary64
+
+abbrev pub HALF : Float
+HALF = half binary64
 
 -- ---- the domains: sine and cosine from -ANGLE-LIMIT to ANGLE-LIMIT, 128; the tangent from 0 to TAN-LIMIT, 0.75; the exponential from -EXP-LIMIT, 10000, to 0
 abbrev pub between : Float → Float → Float → Bool
@@ -44,6 +47,12 @@ P3 = ofBits binary64 0x3a1c_06e0_e689_4812
 
 abbrev pub MAGIC : Float
 MAGIC = ofBits binary64 0x4338_0000_0000_0000
+
+abbrev pub FOUR : Float
+FOUR = ofBits binary64 0x4010_0000_0000_0000
+
+abbrev pub QUARTER : Float
+QUARTER = ofBits binary64 0x3fd0_0000_0000_0000
 
 -- ---- `ksin` and `kcos`
 abbrev pub S0 : Float

@@ -6,12 +6,11 @@ use lib.Dec.{T}
 use lib.Ieee.{Float, nan, inf, fin, binary64, ofBits, neg, lt, le, isNan}
 use lib.Ieee.Fits.{and-i}
 use lib.Ieee.Scale.{finite}
-use Rattle.floats.specs.Notation.{half}
 use Rattle.floats.specs.Fractions.{sign}
 use Rattle.floats.specs.Definitions.{magnitude, clamp}
 use Rattle.floats.specs.Order.{number, le→number, Within, widen, neg-within}
 use Rattle.floats.specs.Clamps.{clamp-within, cond-within}
-use Rattle.numbers.specs.Constants.{𝟎, 𝟏, between, ANGLE-LIMIT, TAN-LIMIT, EXP-LIMIT, NEAR, EXP-FLOOR, PI, PIO2}
+use Rattle.numbers.specs.Constants.{𝟎, 𝟏, HALF, between, ANGLE-LIMIT, TAN-LIMIT, EXP-LIMIT, NEAR, EXP-FLOOR, PI, PIO2}
 use Rattle.numbers.specs.Domains.{between→within, within→between}
 use Rattle.numbers.specs.Sines.{sine, cosine, sin, cos, tan}
 use Rattle.numbers.specs.Exponential.{exponential, exp}
@@ -111,7 +110,7 @@ asin-given : (x : Float) → Given (asin binary64 x) (between x (neg 𝟏) 𝟏)
 unfolding arcsine
 asin-given x =
     only (between x (neg 𝟏) 𝟏) _ (neg PIO2) PIO2
-    (cond-within (le (magnitude x) (half binary64)) _ _ (neg PIO2) PIO2 (quarter _) (turned (lt x 𝟎) _ (quarter _)))
+    (cond-within (le (magnitude x) HALF) _ _ (neg PIO2) PIO2 (quarter _) (turned (lt x 𝟎) _ (quarter _)))
 
 pub asin-within : (x : Float) → Within x (neg 𝟏) 𝟏 → Within (asin binary64 x) (neg PIO2) PIO2
 asin-within x w = asin-given x .0 (within→between x (neg 𝟏) 𝟏 w)
@@ -126,7 +125,7 @@ acos-given : (x : Float) → Given (acos binary64 x) (between x (neg 𝟏) 𝟏)
 unfolding arccosine
 acos-given x =
     only (between x (neg 𝟏) 𝟏) _ 𝟎 PI
-    (cond-within (le (magnitude x) (half binary64)) _ _ 𝟎 PI (upward _) (cond-within (lt x 𝟎) _ _ 𝟎 PI (upward _) (upward _)))
+    (cond-within (le (magnitude x) HALF) _ _ 𝟎 PI (upward _) (cond-within (lt x 𝟎) _ _ 𝟎 PI (upward _) (upward _)))
 
 pub acos-within : (x : Float) → Within x (neg 𝟏) 𝟏 → Within (acos binary64 x) 𝟎 PI
 acos-within x w = acos-given x .0 (within→between x (neg 𝟏) 𝟏 w)

@@ -1,9 +1,9 @@
 -- Sine, cosine and tangent: fixed orders of binary64 operations. At another format the result is rounded once more.
 use mathlib.Core.Bool.{cond}
-use lib.Ieee.{Float, nan, Format, binary64, ofBits, neg, eq}
-use Rattle.floats.specs.Notation.{Rounded, rounded, half, narrow}
+use lib.Ieee.{Float, nan, Format, binary64, neg, eq}
+use Rattle.floats.specs.Notation.{Rounded, rounded, narrow}
 use Rattle.floats.specs.Definitions.{clamp}
-use Rattle.numbers.specs.Constants.{𝟎, 𝟏, between, ANGLE-LIMIT, TAN-LIMIT, NEAR, TWO-OVER-PI, P1, P2, P3, MAGIC, S0, S1, S2, S3, S4, S5, C0, C1, C2, C3, C4, C5}
+use Rattle.numbers.specs.Constants.{𝟎, 𝟏, HALF, between, ANGLE-LIMIT, TAN-LIMIT, NEAR, TWO-OVER-PI, P1, P2, P3, MAGIC, FOUR, QUARTER, S0, S1, S2, S3, S4, S5, C0, C1, C2, C3, C4, C5}
 use Rattle.numbers.specs.declared.sines.Reduced.{Reduced}
 open Rounded (rounded binary64) using (_⊕_, _⊖_, _⊗_, _⊘_)
 
@@ -20,7 +20,7 @@ kcos r d =
     let z = r ⊗ r in
     let w = z ⊗ z in
     let p = (C0 ⊕ z ⊗ C1) ⊕ w ⊗ ((C2 ⊕ z ⊗ C3) ⊕ w ⊗ (C4 ⊕ z ⊗ C5)) in
-    𝟏 ⊖ (half binary64 ⊗ z ⊖ (w ⊗ p ⊕ r ⊗ d))
+    𝟏 ⊖ (HALF ⊗ z ⊖ (w ⊗ p ⊕ r ⊗ d))
 
 -- ---- an angle as k quarter turns and r - d: k is the whole number nearest to x * 2 / pi, and m is k mod 4, from -2 to 2
 unfoldable pub reduce : Float → Reduced
@@ -30,7 +30,7 @@ reduce x =
     let b = k ⊗ P2 in
     let r = a ⊖ b in
     record {
-      m = k ⊖ ofBits binary64 0x4010_0000_0000_0000 ⊗ (k ⊗ ofBits binary64 0x3fd0_0000_0000_0000 ⊕ MAGIC ⊖ MAGIC);
+      m = k ⊖ FOUR ⊗ (k ⊗ QUARTER ⊕ MAGIC ⊖ MAGIC);
       r = r;
       d = k ⊗ P3 ⊕ (b ⊖ (a ⊖ r));
     }
