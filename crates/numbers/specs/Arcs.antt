@@ -22,8 +22,8 @@ kasin z =
     z ⊗ (p0 ⊕ u ⊗ (p1 ⊕ u ⊗ p2))
 
 -- the arc cosine of a, from 0.5 to 1, as g + q: twice the arc sine of the root of (1 - a) / 2
-unfoldable pub nearOne : Float → Half
-nearOne a =
+unfoldable pub near-one : Float → Half
+near-one a =
     let z = HALF ⊗ (𝟏 ⊖ a) in
     let s = root binary64 z in
     let g = s ⊕ s in
@@ -31,7 +31,7 @@ nearOne a =
 
 unfoldable pub arcsine : Float → Float
 arcsine x =
-    let h = nearOne (magnitude x) in
+    let h = near-one (magnitude x) in
     let v = clamp ((PIO2 ⊖ h .g) ⊕ (PIO2-LO ⊖ h .q)) (neg PIO2) PIO2 in
     cond (between x (neg 𝟏) 𝟏)
     (cond (le (magnitude x) HALF) (clamp (x ⊕ x ⊗ kasin (x ⊗ x)) (neg PIO2) PIO2)
@@ -40,7 +40,7 @@ arcsine x =
 
 unfoldable pub arccosine : Float → Float
 arccosine x =
-    let h = nearOne (magnitude x) in
+    let h = near-one (magnitude x) in
     cond (between x (neg 𝟏) 𝟏)
     (cond (le (magnitude x) HALF) (clamp (PIO2 ⊖ (x ⊕ (x ⊗ kasin (x ⊗ x) ⊖ PIO2-LO))) 𝟎 PI)
     (cond (lt x 𝟎) (clamp (PI ⊖ (h .g ⊕ (h .q ⊖ PI-LO))) 𝟎 PI) (clamp (h .g ⊕ h .q) 𝟎 PI)))

@@ -4,14 +4,13 @@ use mathlib.Core.Path.{_≡_, refl}
 use mathlib.Core.Bool.{Bool, true, false, not, cond, _&&_}
 use lib.Dec.{T}
 use lib.Ieee.{Float, nan, inf, fin, binary64, ofBits, neg, lt, le, isNan}
-use lib.Ieee.Fits.{and-i}
+use lib.Ieee.Fits.{and-l, and-r, and-i}
 use lib.Ieee.Scale.{finite}
 use Rattle.floats.specs.Fractions.{sign}
 use Rattle.floats.specs.Definitions.{magnitude, clamp}
 use Rattle.floats.specs.Order.{number, le→number, Within, widen, neg-within}
 use Rattle.floats.specs.Clamps.{clamp-within, cond-within}
 use Rattle.numbers.specs.Constants.{𝟎, 𝟏, HALF, between, ANGLE-LIMIT, TAN-LIMIT, EXP-LIMIT, NEAR, EXP-FLOOR, PI, PIO2}
-use Rattle.numbers.specs.Domains.{between→within, within→between}
 use Rattle.numbers.specs.Sines.{sine, cosine, sin, cos, tan}
 use Rattle.numbers.specs.Exponential.{exponential, exp}
 use Rattle.numbers.specs.Arcs.{katan, upper, arcsine, arccosine, angle, asin, acos, atan2}
@@ -36,7 +35,13 @@ given false false u v lo hi h p q = (λ (t : T false). absurd t, unfold isNan in
 only : (inside : Bool) (v lo hi : Float) → Within v lo hi → Given (cond inside v nan) inside lo hi
 only inside v lo hi q = given false inside v v lo hi (λ (t : T false). absurd t) q q
 
--- a narrower interval is inside
+-- ---- the test of a domain says that x lies within it
+between→within : (x lo hi : Float) → T (between x lo hi) → Within x lo hi
+between→within x lo hi t = (and-l (le lo x) (le x hi) t, and-r (le lo x) (le x hi) t)
+
+within→between : (x lo hi : Float) → Within x lo hi → T (between x lo hi)
+within→between x lo hi w = and-i (le lo x) (le x hi) (w .0) (w .1)
+
 narrower : (x lo hi lo' hi' : Float) → T (le lo' lo) → T (le hi hi') → T (between x lo hi) → T (between x lo' hi')
 narrower x lo hi lo' hi' h k t = within→between x lo' hi' (widen x lo hi lo' hi' h k (between→within x lo hi t))
 

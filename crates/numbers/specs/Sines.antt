@@ -36,14 +36,14 @@ reduce x =
     }
 
 -- sine and cosine of an angle so written
-unfoldable pub sineOf : Reduced → Float
-sineOf t =
+unfoldable pub sine-of : Reduced → Float
+sine-of t =
     let s = ksin (t .r) (t .d) in
     let c = kcos (t .r) (t .d) in
     cond (eq (t .m) 𝟎) s (cond (eq (t .m) 𝟏) c (cond (eq (t .m) (neg 𝟏)) (neg c) (neg s)))
 
-unfoldable pub cosineOf : Reduced → Float
-cosineOf t =
+unfoldable pub cosine-of : Reduced → Float
+cosine-of t =
     let s = ksin (t .r) (t .d) in
     let c = kcos (t .r) (t .d) in
     cond (eq (t .m) 𝟎) c (cond (eq (t .m) 𝟏) (neg s) (cond (eq (t .m) (neg 𝟏)) s (neg c)))
@@ -52,12 +52,12 @@ cosineOf t =
 unfoldable pub sine : Float → Float
 sine x =
     cond (between x (neg NEAR) NEAR) (clamp (ksin x 𝟎) (neg 𝟏) 𝟏)
-    (cond (between x (neg ANGLE-LIMIT) ANGLE-LIMIT) (clamp (sineOf (reduce x)) (neg 𝟏) 𝟏) nan)
+    (cond (between x (neg ANGLE-LIMIT) ANGLE-LIMIT) (clamp (sine-of (reduce x)) (neg 𝟏) 𝟏) nan)
 
 unfoldable pub cosine : Float → Float
 cosine x =
     cond (between x (neg NEAR) NEAR) (clamp (kcos x 𝟎) (neg 𝟏) 𝟏)
-    (cond (between x (neg ANGLE-LIMIT) ANGLE-LIMIT) (clamp (cosineOf (reduce x)) (neg 𝟏) 𝟏) nan)
+    (cond (between x (neg ANGLE-LIMIT) ANGLE-LIMIT) (clamp (cosine-of (reduce x)) (neg 𝟏) 𝟏) nan)
 
 unfoldable pub tan : Float → Float
 tan x = cond (between x 𝟎 TAN-LIMIT) (clamp (ksin x 𝟎 ⊘ kcos x 𝟎) 𝟎 𝟏) nan

@@ -1,11 +1,8 @@
 // Arc sine, arc cosine, and the angle of a point.
 ghost use mathlib.Core.Path.{_≡_};
-ghost use mathlib.Core.Bool.{not};
-ghost use lib.Dec.{T};
-ghost use lib.Ieee.{binary64, isNan};
-ghost use lib.Ieee.Scale.{finite};
+ghost use lib.Ieee.{binary64};
 ghost use Rattle.floats.specs.Fractions.{sign};
-ghost use Rattle.numbers.specs.Arcs.{kasin, nearOne, ratio, katan, upper, asin, acos, atan2};
+ghost use Rattle.numbers.specs.Arcs.{kasin, near-one, ratio, katan, upper, asin, acos, atan2};
 use crate::roots::sqrt;
 
 // pi and pi / 2, and what each lacks.
@@ -60,7 +57,7 @@ struct Half {
 }
 
 fn near_one(a: f64) -> Half
-    ensures { λ h. ⌜ h ≡ nearOne a ⌝ }
+    ensures { λ h. ⌜ h ≡ near-one a ⌝ }
 {
     let z = 0.5 * (1.0 - a);
     let s = sqrt(z);
@@ -172,15 +169,13 @@ fn katan(n: f64, d: f64, hi: f64, lo: f64) -> f64
 
 // Whether the sign is set, also of a zero.
 fn negative(x: f64) -> bool
-    requires { ⌜ T (not (isNan x)) ⌝ }
     ensures { λ r. ⌜ r ≡ sign x ⌝ }
 {
-    f64::to_bits(x) >= 0x8000_0000_0000_0000
+    floats::to_bits(x) >= 0x8000_0000_0000_0000
 }
 
 // The angle of the point (x, y), for a y from 0 up.
 fn upper(y: f64, x: f64) -> f64
-    requires { ⌜ T (not (isNan x)) ⌝ }
     ensures { λ r. ⌜ r ≡ upper y x ⌝ }
 {
     if floats::magnitude(x) < y {

@@ -1,8 +1,6 @@
 // The exponential, for a number that is not above 0.
 ghost use mathlib.Core.Path.{_≡_};
-ghost use mathlib.Core.Bool.{not};
-ghost use lib.Dec.{T};
-ghost use lib.Ieee.{binary64, isNan};
+ghost use lib.Ieee.{binary64};
 ghost use Rattle.numbers.specs.Exponential.{kexp, power, exp};
 
 // The exponential is given from -EXP_LIMIT to 0.
@@ -49,10 +47,9 @@ const EXP_MAGIC: f64 = 6755399441056767.0;
 
 // 2^k, for a t of k + EXP_MAGIC and a k from -1022 to 1023: the last eleven bits of t are k + 1023.
 fn power(t: f64) -> f64
-    requires { ⌜ T (not (isNan t)) ⌝ }
     ensures { λ s. ⌜ s ≡ power t ⌝ }
 {
-    f64::from_bits((f64::to_bits(t) & 0x7ff) << 52)
+    floats::from_bits((floats::to_bits(t) & 0x7ff) << 52)
 }
 
 // The logarithm of e to base 2.

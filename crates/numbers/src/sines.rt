@@ -1,7 +1,7 @@
 // Sine, cosine and tangent.
 ghost use mathlib.Core.Path.{_≡_};
 ghost use lib.Ieee.{binary64};
-ghost use Rattle.numbers.specs.Sines.{ksin, kcos, reduce, sineOf, cosineOf, sin, cos, tan};
+ghost use Rattle.numbers.specs.Sines.{ksin, kcos, reduce, sine-of, cosine-of, sin, cos, tan};
 
 // Sine and cosine are given from -ANGLE_LIMIT to ANGLE_LIMIT, the tangent from 0 to TAN_LIMIT.
 const ANGLE_LIMIT: f64 = 128.0;
@@ -88,7 +88,7 @@ fn reduce(x: f64) -> Reduced
 
 // The sine of an angle so written.
 fn sine_of(t: Reduced) -> f64
-    ensures { λ s. ⌜ s ≡ sineOf t ⌝ }
+    ensures { λ s. ⌜ s ≡ sine-of t ⌝ }
 {
     if t.m == 0.0 {
         ksin(t.r, t.d)
@@ -102,7 +102,7 @@ fn sine_of(t: Reduced) -> f64
 }
 
 fn cosine_of(t: Reduced) -> f64
-    ensures { λ c. ⌜ c ≡ cosineOf t ⌝ }
+    ensures { λ c. ⌜ c ≡ cosine-of t ⌝ }
 {
     if t.m == 0.0 {
         kcos(t.r, t.d)
