@@ -51,18 +51,18 @@ fn kasin(z: f64) -> f64
 }
 
 // The arc cosine of a, from 0.5 to 1, as g + q: twice the arc sine of the root of (1 - a) / 2.
-struct Half {
+struct Parts {
     g: f64,
     q: f64,
 }
 
-fn near_one(a: f64) -> Half
+fn near_one(a: f64) -> Parts
     ensures { λ h. ⌜ h ≡ near-one a ⌝ }
 {
     let z = 0.5 * (1.0 - a);
     let s = sqrt(z);
     let g = s + s;
-    Half { g, q: g * kasin(z) }
+    Parts { g, q: g * kasin(z) }
 }
 
 pub fn asin(x: f64) -> f64
@@ -149,7 +149,7 @@ const T18: f64 = -0.0001522106732397829;
 
 const T19: f64 = 1.3229952258016625e-05;
 
-// hi + lo + the arc tangent of n / d, for an n that is no larger than d.
+// hi + lo + the arc tangent of n / d, for an n no larger in size than d.
 fn katan(n: f64, d: f64, hi: f64, lo: f64) -> f64
     ensures { λ r. ⌜ r ≡ katan n d hi lo ⌝ }
 {
