@@ -8,7 +8,7 @@ use lib.Ieee.Fits.{and-l, and-r, and-i}
 use lib.Ieee.Scale.{finite}
 use Rattle.floats.specs.Fractions.{sign}
 use Rattle.floats.specs.Definitions.{magnitude, clamp}
-use Rattle.floats.specs.Order.{number, le→number, Within, widen, neg-within}
+use Rattle.floats.specs.Order.{number, le→number, Within, within-finite, widen, neg-within}
 use Rattle.floats.specs.Clamps.{clamp-within, cond-within}
 use Rattle.numbers.specs.Constants.{𝟎, 𝟏, HALF, between, ANGLE-LIMIT, TAN-LIMIT, EXP-LIMIT, NEAR, EXP-FLOOR, PI, PIO2}
 use Rattle.numbers.specs.Sines.{sine, cosine, sin, cos, tan}
@@ -86,6 +86,9 @@ tan-given x = only (between x 𝟎 TAN-LIMIT) _ 𝟎 𝟏 (from-zero _)
 
 pub tan-within : (x : Float) → Within x 𝟎 TAN-LIMIT → Within (tan x) 𝟎 𝟏
 tan-within x w = tan-given x .0 (within→between x 𝟎 TAN-LIMIT w)
+
+pub tan-finite : (x : Float) → Within x 𝟎 TAN-LIMIT → T (finite (tan x))
+tan-finite x w = within-finite (tan x) 𝟎 𝟏 (unfold ofBits in tt) (unfold ofBits in tt) (tan-within x w)
 
 pub tan-domain : (x : Float) → isNan (tan x) ≡ not (between x 𝟎 TAN-LIMIT)
 tan-domain x = tan-given x .1
