@@ -1,3 +1,5 @@
 pub mod Coefficients
 pub mod Channels
 pub mod Banks
+pub mod Bounds
+pub mod Values
