@@ -2,24 +2,25 @@
 --     angle-within            what the tangent is taken of lies within 0 and 0.75
 --     filter-coeffs-within    each coefficient lies within -2 and 2
 --     filter-coeffs-finite    each coefficient is finite
+--     filter-coeffs-outside   where the angle is outside 0 and 0.75, which no such tau and ts bring about, each coefficient is a NaN
 --     gain-within             the gain lies within 0 and 1
-use mathlib.Core.Path.{_≡_, refl, subst}
+use mathlib.Core.Path.{_≡_, refl, subst, ap, _∙_}
 use mathlib.Core.Logic.{_⊎_, inl, inr}
 use mathlib.Core.Bool.{Bool, true, false, not, _||_, cond}
 use lib.Dec.{T}
-use lib.Ieee.{Float, binary64, ofBits, add, sub, mul, div, neg, lt, eq, le, round}
+use lib.Ieee.{Float, nan, inf, fin, binary64, ofBits, add, sub, mul, div, neg, lt, eq, le, round, isNan}
 use lib.Ieee.Scale.{finite}
-use lib.Ieee.Positive.{num, den, positive}
+use lib.Ieee.Positive.{num, den}
 use Rattle.floats.specs.Notation.{Rounded, rounded, zero}
 use Rattle.floats.specs.Order.{le-tr, Within, within-finite}
 use Rattle.floats.specs.Products.{mul-mono, mul-sym}
 use Rattle.floats.specs.Quotients.{div-anti, positive-up}
 use Rattle.floats.specs.Relative.{undone}
 use Rattle.floats.specs.Intervals.{none, known, Expr, var, lit, neg·, add·, sub·, mul·, div·, bound, inside, bounded}
-use Rattle.numbers.specs.Constants.{TAN-LIMIT, EXP-LIMIT}
+use Rattle.numbers.specs.Constants.{between, TAN-LIMIT, EXP-LIMIT}
 use Rattle.numbers.specs.Sines.{tan}
 use Rattle.numbers.specs.Exponential.{exp}
-use Rattle.numbers.specs.Ranges.{tan-within, exp-within}
+use Rattle.numbers.specs.Ranges.{tan-within, tan-domain, exp-within}
 use Rattle.filters.specs.Coefficients.{𝟏, 𝟐, PI, SQRT-2, angle, coeffs, filter-coeffs, gain-from-tau}
 use Rattle.filters.specs.declared.coeffs.Coeffs.{Coeffs}
 open Rounded (rounded binary64) using (_⊕_, _⊖_, _⊗_, _⊘_)
@@ -147,6 +148,16 @@ filter-coeffs-finite tau ts v w =
       within-finite (k .a1) (neg 𝟐) 𝟎 tt tt (h .3),
       within-finite (k .a2) (neg 𝟐) 𝟐 tt tt (h .4),
     )
+
+nan-only : (x : Float) → isNan x ≡ true → x ≡ nan
+unfolding isNan
+nan-only nan e = refl
+nan-only (inf s) e = cc
+nan-only (fin s m d) e = cc
+
+pub filter-coeffs-outside : (tau ts : Float) → between (angle tau ts) 𝟎 TAN-LIMIT ≡ false → filter-coeffs tau ts ≡ record { b0 = nan; b1 = nan; b2 = nan; a1 = nan; a2 = nan }
+unfolding filter-coeffs coeffs add sub mul div neg ofBits
+filter-coeffs-outside tau ts h = rw (nan-only (tan (angle tau ts)) (tan-domain (angle tau ts) ∙ ap not h))
 
 -- ---- the gain
 exponent : (tau ts : Float) → Interval ts → Within tau LEAST MOST → Within (neg ts ⊘ tau) (neg EXP-LIMIT) 𝟎

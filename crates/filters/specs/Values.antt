@@ -1,6 +1,6 @@
 -- Worked values of an averaging filter, computed from the definitions at binary64, whatever its coefficients.
 use mathlib.Core.Path.{_≡_, refl}
-use mathlib.Core.List.{List, [], _∷_}
+use mathlib.Core.List.{[], _∷_}
 use lib.Ieee.{binary64, add, mul, div, le, ofInt, round, ofBits}
 use Rattle.algebra.specs.Vectors.{vector}
 use Rattle.algebra.specs.Values.{whole, part}

@@ -1,6 +1,6 @@
 -- After i turns the first i channels are adapted.
 use borrow.Author.Needs.{needs}
-use Prim.Native.Nat.{ℕ, _-_}
+use Prim.Native.Nat.{_-_}
 use Rattle.filters.specs.Channels.{filter-adapt-state-for-coeff-change}
 use Rattle.filters.specs.Banks.{sample, channel, adapted}
 use Rattle.filters.proofs.Fill.{Filling, filling-more, filling-done}
