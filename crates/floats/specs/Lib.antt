@@ -1,5 +1,6 @@
 pub mod Notation
 pub mod Definitions
+pub mod NoNan
 pub mod Fractions
 pub mod Order
 pub mod Clamps

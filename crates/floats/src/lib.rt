@@ -1,5 +1,6 @@
 // Small functions on floats that everything above uses.
 ghost use mathlib.Core.Path.{_≡_};
+ghost use lib.Ieee.{binary64, ofBits, toBits};
 ghost use lib.Ieee.Scale.{finite};
 ghost use Rattle.floats.specs.Definitions.{magnitude, clamp, larger, smaller};
 
@@ -55,5 +56,27 @@ pub fn smaller(x: f64, y: f64) -> f64
         x
     } else {
         y
+    }
+}
+
+// The float with the bits n. All the bits that stand for a NaN give the one NaN.
+pub fn from_bits(n: u64) -> f64
+    ensures { λ r. ⌜ r ≡ ofBits binary64 n ⌝ }
+{
+    if (n & 0x7fff_ffff_ffff_ffff) > 0x7ff0_0000_0000_0000 {
+        0.0 / 0.0
+    } else {
+        f64::from_bits(n)
+    }
+}
+
+// The bits of x; for a NaN one fixed pattern.
+pub fn to_bits(x: f64) -> u64
+    ensures { λ r. ⌜ r ≡ toBits binary64 x ⌝ }
+{
+    if x == x {
+        f64::to_bits(x)
+    } else {
+        0x7ff8_0000_0000_0000
     }
 }

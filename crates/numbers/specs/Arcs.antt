@@ -2,12 +2,12 @@
 use mathlib.Core.Bool.{cond, _&&_}
 use lib.Ieee.{Float, nan, Format, binary64, neg, lt, eq, le}
 use lib.Ieee.Scale.{finite}
-use Rattle.floats.specs.Notation.{Rounded, rounded, half, narrow}
+use Rattle.floats.specs.Notation.{Rounded, rounded, narrow}
 use Rattle.floats.specs.Fractions.{sign}
 use Rattle.floats.specs.Definitions.{magnitude, clamp}
-use Rattle.numbers.specs.Constants.{𝟎, 𝟏, between, PI, PI-LO, PIO2, PIO2-LO, A0, A1, A2, A3, A4, A5, A6, A7, A8, A9, A10, A11, T0, T1, T2, T3, T4, T5, T6, T7, T8, T9, T10, T11, T12, T13, T14, T15, T16, T17, T18, T19}
+use Rattle.numbers.specs.Constants.{𝟎, 𝟏, HALF, between, PI, PI-LO, PIO2, PIO2-LO, A0, A1, A2, A3, A4, A5, A6, A7, A8, A9, A10, A11, T0, T1, T2, T3, T4, T5, T6, T7, T8, T9, T10, T11, T12, T13, T14, T15, T16, T17, T18, T19}
 use Rattle.numbers.specs.Root.{root}
-use Rattle.numbers.specs.declared.arcs.Half.{Half}
+use Rattle.numbers.specs.declared.arcs.Parts.{Parts}
 open Rounded (rounded binary64) using (_⊕_, _⊖_, _⊗_, _⊘_)
 
 -- ---- arc sine and arc cosine
@@ -22,27 +22,27 @@ kasin z =
     z ⊗ (p0 ⊕ u ⊗ (p1 ⊕ u ⊗ p2))
 
 -- the arc cosine of a, from 0.5 to 1, as g + q: twice the arc sine of the root of (1 - a) / 2
-unfoldable pub nearOne : Float → Half
-nearOne a =
-    let z = half binary64 ⊗ (𝟏 ⊖ a) in
+unfoldable pub near-one : Float → Parts
+near-one a =
+    let z = HALF ⊗ (𝟏 ⊖ a) in
     let s = root binary64 z in
     let g = s ⊕ s in
     record { g = g; q = g ⊗ kasin z }
 
 unfoldable pub arcsine : Float → Float
 arcsine x =
-    let h = nearOne (magnitude x) in
+    let h = near-one (magnitude x) in
     let v = clamp ((PIO2 ⊖ h .g) ⊕ (PIO2-LO ⊖ h .q)) (neg PIO2) PIO2 in
     cond (between x (neg 𝟏) 𝟏)
-    (cond (le (magnitude x) (half binary64)) (clamp (x ⊕ x ⊗ kasin (x ⊗ x)) (neg PIO2) PIO2)
+    (cond (le (magnitude x) HALF) (clamp (x ⊕ x ⊗ kasin (x ⊗ x)) (neg PIO2) PIO2)
     (cond (lt x 𝟎) (neg v) v))
     nan
 
 unfoldable pub arccosine : Float → Float
 arccosine x =
-    let h = nearOne (magnitude x) in
+    let h = near-one (magnitude x) in
     cond (between x (neg 𝟏) 𝟏)
-    (cond (le (magnitude x) (half binary64)) (clamp (PIO2 ⊖ (x ⊕ (x ⊗ kasin (x ⊗ x) ⊖ PIO2-LO))) 𝟎 PI)
+    (cond (le (magnitude x) HALF) (clamp (PIO2 ⊖ (x ⊕ (x ⊗ kasin (x ⊗ x) ⊖ PIO2-LO))) 𝟎 PI)
     (cond (lt x 𝟎) (clamp (PI ⊖ (h .g ⊕ (h .q ⊖ PI-LO))) 𝟎 PI) (clamp (h .g ⊕ h .q) 𝟎 PI)))
     nan
 
@@ -51,7 +51,7 @@ arccosine x =
 unfoldable pub ratio : Float → Float → Float
 ratio n d = cond (eq d 𝟎) 𝟎 (n ⊘ d)
 
--- hi + lo + the arc tangent of n / d, for an n that is no larger than d
+-- hi + lo + the arc tangent of n / d, for an n no larger in size than d
 unfoldable pub katan : Float → Float → Float → Float → Float
 katan n d hi lo =
     let t = ratio n d in

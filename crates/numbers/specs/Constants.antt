@@ -1,7 +1,7 @@
 -- The constants of the recipes, each by its bits. docs/NUMBERS.md has them in decimal.
 use mathlib.Core.Bool.{Bool, _&&_}
 use lib.Ieee.{Float, binary64, ofBits, le}
-use Rattle.floats.specs.Notation.{zero, one, pi}
+use Rattle.floats.specs.Notation.{zero, half, one, pi}
 
 abbrev pub 𝟎 : Float
 𝟎 = zero binary64
@@ -9,10 +9,14 @@ abbrev pub 𝟎 : Float
 abbrev pub 𝟏 : Float
 𝟏 = one binary64
 
--- ---- the domains: sine and cosine from -ANGLE-LIMIT to ANGLE-LIMIT, 128; the tangent from 0 to TAN-LIMIT, 0.75; the exponential from -EXP-LIMIT, 10000, to 0
+abbrev pub HALF : Float
+HALF = half binary64
+
+-- x from lo to hi; no NaN is
 abbrev pub between : Float → Float → Float → Bool
 between x lo hi = le lo x && le x hi
 
+-- ---- the domains: sine and cosine from -ANGLE-LIMIT to ANGLE-LIMIT, 128; the tangent from 0 to TAN-LIMIT, 0.75; the exponential from -EXP-LIMIT, 10000, to 0
 abbrev pub ANGLE-LIMIT : Float
 ANGLE-LIMIT = ofBits binary64 0x4060_0000_0000_0000
 
@@ -29,7 +33,7 @@ NEAR = ofBits binary64 0x3fe9_1eb8_51eb_851f
 abbrev pub EXP-FLOOR : Float
 EXP-FLOOR = ofBits binary64 0x4086_2000_0000_0000
 
--- ---- the reduction: two over pi, pi/2 in three parts of which the first two have 45 bits, and 1.5 * 2^52, which rounds to a whole number what is added to it
+-- ---- the reduction: 2 / pi; pi / 2 in three parts, of which the first two have 45 bits each; 1.5 * 2 ^ 52, where what is added is rounded to a whole number
 abbrev pub TWO-OVER-PI : Float
 TWO-OVER-PI = ofBits binary64 0x3fe4_5f30_6dc9_c883
 
@@ -44,6 +48,12 @@ P3 = ofBits binary64 0x3a1c_06e0_e689_4812
 
 abbrev pub MAGIC : Float
 MAGIC = ofBits binary64 0x4338_0000_0000_0000
+
+abbrev pub FOUR : Float
+FOUR = ofBits binary64 0x4010_0000_0000_0000
+
+abbrev pub QUARTER : Float
+QUARTER = ofBits binary64 0x3fd0_0000_0000_0000
 
 -- ---- `ksin` and `kcos`
 abbrev pub S0 : Float
@@ -82,7 +92,7 @@ C4 = ofBits binary64 0x3e21_ee9d_b8da_1a61
 abbrev pub C5 : Float
 C5 = ofBits binary64 0xbda8_fa65_e2f3_c353
 
--- ---- the exponential: the logarithm of e to base 2, that of 2 in two parts of which the first has 42 bits, 1.5 * 2^52 + 1023, and the polynomial
+-- ---- the exponential: log2 e; ln 2 in two parts, of which the first has 42 bits; 1.5 * 2 ^ 52 + 1023; and `kexp`
 abbrev pub LOG2E : Float
 LOG2E = ofBits binary64 0x3ff7_1547_652b_82fe
 
@@ -125,7 +135,7 @@ E8 = ofBits binary64 0x3e92_89e0_3c3b_514f
 abbrev pub E9 : Float
 E9 = ofBits binary64 0x3e5a_d27e_c834_3448
 
--- ---- pi and pi/2, and what each lacks
+-- ---- pi and pi / 2, and what each lacks
 abbrev pub PI : Float
 PI = pi binary64
 

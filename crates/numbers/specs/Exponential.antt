@@ -22,13 +22,10 @@ kexp r =
 unfoldable pub power : Float → Float
 power t = ofBits binary64 (toBits binary64 t % 2 ^ 11 * 2 ^ 52)
 
--- k + EXP-MAGIC, for the whole number k nearest to x * log2 e
-abbrev pub shifted : Float → Float
-shifted x = x ⊗ LOG2E ⊕ EXP-MAGIC
-
+-- k is the whole number nearest to x * log2 e, so that e ^ x is e ^ r * 2 ^ k
 unfoldable pub exponential : Float → Float
 exponential x =
-    let t = shifted x in
+    let t = x ⊗ LOG2E ⊕ EXP-MAGIC in
     let k = t ⊖ EXP-MAGIC in
     let r = x ⊖ k ⊗ L1 ⊖ k ⊗ L2 in
     cond (between x (neg EXP-FLOOR) 𝟎) (clamp (kexp r ⊗ power t) 𝟎 𝟏)

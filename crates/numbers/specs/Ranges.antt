@@ -4,15 +4,13 @@ use mathlib.Core.Path.{_≡_, refl}
 use mathlib.Core.Bool.{Bool, true, false, not, cond, _&&_}
 use lib.Dec.{T}
 use lib.Ieee.{Float, nan, inf, fin, binary64, ofBits, neg, lt, le, isNan}
-use lib.Ieee.Fits.{and-i}
+use lib.Ieee.Fits.{and-l, and-r, and-i}
 use lib.Ieee.Scale.{finite}
-use Rattle.floats.specs.Notation.{half}
 use Rattle.floats.specs.Fractions.{sign}
 use Rattle.floats.specs.Definitions.{magnitude, clamp}
 use Rattle.floats.specs.Order.{number, le→number, Within, widen, neg-within}
 use Rattle.floats.specs.Clamps.{clamp-within, cond-within}
-use Rattle.numbers.specs.Constants.{𝟎, 𝟏, between, ANGLE-LIMIT, TAN-LIMIT, EXP-LIMIT, NEAR, EXP-FLOOR, PI, PIO2}
-use Rattle.numbers.specs.Domains.{between→within, within→between}
+use Rattle.numbers.specs.Constants.{𝟎, 𝟏, HALF, between, ANGLE-LIMIT, TAN-LIMIT, EXP-LIMIT, NEAR, EXP-FLOOR, PI, PIO2}
 use Rattle.numbers.specs.Sines.{sine, cosine, sin, cos, tan}
 use Rattle.numbers.specs.Exponential.{exponential, exp}
 use Rattle.numbers.specs.Arcs.{katan, upper, arcsine, arccosine, angle, asin, acos, atan2}
@@ -37,7 +35,13 @@ given false false u v lo hi h p q = (λ (t : T false). absurd t, unfold isNan in
 only : (inside : Bool) (v lo hi : Float) → Within v lo hi → Given (cond inside v nan) inside lo hi
 only inside v lo hi q = given false inside v v lo hi (λ (t : T false). absurd t) q q
 
--- a narrower interval is inside
+-- ---- the test of a domain says that x lies within it
+between→within : (x lo hi : Float) → T (between x lo hi) → Within x lo hi
+between→within x lo hi t = (and-l (le lo x) (le x hi) t, and-r (le lo x) (le x hi) t)
+
+within→between : (x lo hi : Float) → Within x lo hi → T (between x lo hi)
+within→between x lo hi w = and-i (le lo x) (le x hi) (w .0) (w .1)
+
 narrower : (x lo hi lo' hi' : Float) → T (le lo' lo) → T (le hi hi') → T (between x lo hi) → T (between x lo' hi')
 narrower x lo hi lo' hi' h k t = within→between x lo' hi' (widen x lo hi lo' hi' h k (between→within x lo hi t))
 
@@ -111,7 +115,7 @@ asin-given : (x : Float) → Given (asin binary64 x) (between x (neg 𝟏) 𝟏)
 unfolding arcsine
 asin-given x =
     only (between x (neg 𝟏) 𝟏) _ (neg PIO2) PIO2
-    (cond-within (le (magnitude x) (half binary64)) _ _ (neg PIO2) PIO2 (quarter _) (turned (lt x 𝟎) _ (quarter _)))
+    (cond-within (le (magnitude x) HALF) _ _ (neg PIO2) PIO2 (quarter _) (turned (lt x 𝟎) _ (quarter _)))
 
 pub asin-within : (x : Float) → Within x (neg 𝟏) 𝟏 → Within (asin binary64 x) (neg PIO2) PIO2
 asin-within x w = asin-given x .0 (within→between x (neg 𝟏) 𝟏 w)
@@ -126,7 +130,7 @@ acos-given : (x : Float) → Given (acos binary64 x) (between x (neg 𝟏) 𝟏)
 unfolding arccosine
 acos-given x =
     only (between x (neg 𝟏) 𝟏) _ 𝟎 PI
-    (cond-within (le (magnitude x) (half binary64)) _ _ 𝟎 PI (upward _) (cond-within (lt x 𝟎) _ _ 𝟎 PI (upward _) (upward _)))
+    (cond-within (le (magnitude x) HALF) _ _ 𝟎 PI (upward _) (cond-within (lt x 𝟎) _ _ 𝟎 PI (upward _) (upward _)))
 
 pub acos-within : (x : Float) → Within x (neg 𝟏) 𝟏 → Within (acos binary64 x) 𝟎 PI
 acos-within x w = acos-given x .0 (within→between x (neg 𝟏) 𝟏 w)
@@ -143,15 +147,15 @@ upper-within : (y x : Float) → Within (upper y x) 𝟎 PI
 unfolding upper
 upper-within y x = cond-within (lt (magnitude x) y) _ _ 𝟎 PI (katan-within _ _ _ _) (cond-within (sign x) _ _ 𝟎 PI (katan-within _ _ _ _) (katan-within _ _ _ _))
 
+either-side : (b : Bool) (v : Float) → Within v 𝟎 PI → Within (cond b (neg v) v) (neg PI) PI
+either-side b v w =
+    cond-within b (neg v) v (neg PI) PI
+    (widen (neg v) (neg PI) (neg 𝟎) (neg PI) PI (unfold le neg ofBits in tt) (unfold le neg ofBits in tt) (neg-within v 𝟎 PI w))
+    (widen v 𝟎 PI (neg PI) PI (unfold le neg ofBits in tt) (unfold le ofBits in tt) w)
+
 atan2-given : (y x : Float) → Given (atan2 binary64 y x) (finite y && finite x) (neg PI) PI
 unfolding angle
-atan2-given y x =
-    let v = upper (magnitude y) x in
-    let w = upper-within (magnitude y) x in
-    only (finite y && finite x) _ (neg PI) PI
-    (cond-within (sign y) (neg v) v (neg PI) PI
-    (widen (neg v) (neg PI) (neg 𝟎) (neg PI) PI (unfold le neg ofBits in tt) (unfold le neg ofBits in tt) (neg-within v 𝟎 PI w))
-    (widen v 𝟎 PI (neg PI) PI (unfold le neg ofBits in tt) (unfold le ofBits in tt) w))
+atan2-given y x = only (finite y && finite x) _ (neg PI) PI (either-side (sign y) _ (upper-within (magnitude y) x))
 
 pub atan2-within : (y x : Float) → T (finite y) → T (finite x) → Within (atan2 binary64 y x) (neg PI) PI
 atan2-within y x p q = atan2-given y x .0 (and-i (finite y) (finite x) p q)

@@ -1,9 +1,9 @@
 -- Sine, cosine and tangent: fixed orders of binary64 operations. At another format the result is rounded once more.
 use mathlib.Core.Bool.{cond}
-use lib.Ieee.{Float, nan, Format, binary64, ofBits, neg, eq}
-use Rattle.floats.specs.Notation.{Rounded, rounded, half, narrow}
+use lib.Ieee.{Float, nan, Format, binary64, neg, eq}
+use Rattle.floats.specs.Notation.{Rounded, rounded, narrow}
 use Rattle.floats.specs.Definitions.{clamp}
-use Rattle.numbers.specs.Constants.{𝟎, 𝟏, between, ANGLE-LIMIT, TAN-LIMIT, NEAR, TWO-OVER-PI, P1, P2, P3, MAGIC, S0, S1, S2, S3, S4, S5, C0, C1, C2, C3, C4, C5}
+use Rattle.numbers.specs.Constants.{𝟎, 𝟏, HALF, between, ANGLE-LIMIT, TAN-LIMIT, NEAR, TWO-OVER-PI, P1, P2, P3, MAGIC, FOUR, QUARTER, S0, S1, S2, S3, S4, S5, C0, C1, C2, C3, C4, C5}
 use Rattle.numbers.specs.declared.sines.Reduced.{Reduced}
 open Rounded (rounded binary64) using (_⊕_, _⊖_, _⊗_, _⊘_)
 
@@ -20,7 +20,7 @@ kcos r d =
     let z = r ⊗ r in
     let w = z ⊗ z in
     let p = (C0 ⊕ z ⊗ C1) ⊕ w ⊗ ((C2 ⊕ z ⊗ C3) ⊕ w ⊗ (C4 ⊕ z ⊗ C5)) in
-    𝟏 ⊖ (half binary64 ⊗ z ⊖ (w ⊗ p ⊕ r ⊗ d))
+    𝟏 ⊖ (HALF ⊗ z ⊖ (w ⊗ p ⊕ r ⊗ d))
 
 -- ---- an angle as k quarter turns and r - d: k is the whole number nearest to x * 2 / pi, and m is k mod 4, from -2 to 2
 unfoldable pub reduce : Float → Reduced
@@ -30,20 +30,20 @@ reduce x =
     let b = k ⊗ P2 in
     let r = a ⊖ b in
     record {
-      m = k ⊖ ofBits binary64 0x4010_0000_0000_0000 ⊗ (k ⊗ ofBits binary64 0x3fd0_0000_0000_0000 ⊕ MAGIC ⊖ MAGIC);
+      m = k ⊖ FOUR ⊗ (k ⊗ QUARTER ⊕ MAGIC ⊖ MAGIC);
       r = r;
       d = k ⊗ P3 ⊕ (b ⊖ (a ⊖ r));
     }
 
 -- sine and cosine of an angle so written
-unfoldable pub sineOf : Reduced → Float
-sineOf t =
+unfoldable pub sine-of : Reduced → Float
+sine-of t =
     let s = ksin (t .r) (t .d) in
     let c = kcos (t .r) (t .d) in
     cond (eq (t .m) 𝟎) s (cond (eq (t .m) 𝟏) c (cond (eq (t .m) (neg 𝟏)) (neg c) (neg s)))
 
-unfoldable pub cosineOf : Reduced → Float
-cosineOf t =
+unfoldable pub cosine-of : Reduced → Float
+cosine-of t =
     let s = ksin (t .r) (t .d) in
     let c = kcos (t .r) (t .d) in
     cond (eq (t .m) 𝟎) c (cond (eq (t .m) 𝟏) (neg s) (cond (eq (t .m) (neg 𝟏)) s (neg c)))
@@ -52,12 +52,12 @@ cosineOf t =
 unfoldable pub sine : Float → Float
 sine x =
     cond (between x (neg NEAR) NEAR) (clamp (ksin x 𝟎) (neg 𝟏) 𝟏)
-    (cond (between x (neg ANGLE-LIMIT) ANGLE-LIMIT) (clamp (sineOf (reduce x)) (neg 𝟏) 𝟏) nan)
+    (cond (between x (neg ANGLE-LIMIT) ANGLE-LIMIT) (clamp (sine-of (reduce x)) (neg 𝟏) 𝟏) nan)
 
 unfoldable pub cosine : Float → Float
 cosine x =
     cond (between x (neg NEAR) NEAR) (clamp (kcos x 𝟎) (neg 𝟏) 𝟏)
-    (cond (between x (neg ANGLE-LIMIT) ANGLE-LIMIT) (clamp (cosineOf (reduce x)) (neg 𝟏) 𝟏) nan)
+    (cond (between x (neg ANGLE-LIMIT) ANGLE-LIMIT) (clamp (cosine-of (reduce x)) (neg 𝟏) 𝟏) nan)
 
 unfoldable pub tan : Float → Float
 tan x = cond (between x 𝟎 TAN-LIMIT) (clamp (ksin x 𝟎 ⊘ kcos x 𝟎) 𝟎 𝟏) nan

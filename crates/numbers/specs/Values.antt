@@ -5,9 +5,9 @@ use lib.Ieee.{Float, binary64, ofBits, toBits, neg, add, sub, mul, div, lt, eq, 
 use Rattle.floats.specs.Definitions.{magnitude, clamp}
 use Rattle.numbers.specs.Constants.{𝟎, 𝟏, EXP-LIMIT, PI, PIO2}
 use Rattle.numbers.specs.Root.{root}
-use Rattle.numbers.specs.Sines.{ksin, kcos, reduce, sineOf, cosineOf, sine, cosine, sin, cos, tan}
+use Rattle.numbers.specs.Sines.{ksin, kcos, reduce, sine-of, cosine-of, sine, cosine, sin, cos, tan}
 use Rattle.numbers.specs.Exponential.{kexp, power, exponential, exp}
-use Rattle.numbers.specs.Arcs.{kasin, nearOne, arcsine, arccosine, ratio, katan, upper, angle, asin, acos, atan2}
+use Rattle.numbers.specs.Arcs.{kasin, near-one, arcsine, arccosine, ratio, katan, upper, angle, asin, acos, atan2}
 
 abbrev pub rows : List (Float × Float)
 rows =
@@ -28,5 +28,5 @@ rows =
     ∷ []
 
 pub values : map (λ (r : Float × Float). r .0) rows ≡ map (λ (r : Float × Float). r .1) rows
-unfolding ofBits toBits neg add sub mul div lt eq le magnitude clamp root ksin kcos reduce sineOf cosineOf sine cosine tan kexp power exponential kasin nearOne arcsine arccosine ratio katan upper angle
+unfolding ofBits toBits neg add sub mul div lt eq le magnitude clamp root ksin kcos reduce sine-of cosine-of sine cosine tan kexp power exponential kasin near-one arcsine arccosine ratio katan upper angle
 values = refl

@@ -1,49 +1,42 @@
 // Arc sine, arc cosine, and the angle of a point.
 ghost use mathlib.Core.Path.{_≡_};
-ghost use mathlib.Core.Bool.{not};
-ghost use lib.Dec.{T};
-ghost use lib.Ieee.{binary64, isNan};
-ghost use lib.Ieee.Scale.{finite};
+ghost use lib.Ieee.{binary64};
 ghost use Rattle.floats.specs.Fractions.{sign};
-ghost use Rattle.numbers.specs.Arcs.{kasin, nearOne, ratio, katan, upper, asin, acos, atan2};
-use crate::constants::A0;
-use crate::constants::A1;
-use crate::constants::A2;
-use crate::constants::A3;
-use crate::constants::A4;
-use crate::constants::A5;
-use crate::constants::A6;
-use crate::constants::A7;
-use crate::constants::A8;
-use crate::constants::A9;
-use crate::constants::A10;
-use crate::constants::A11;
-use crate::constants::PI;
-use crate::constants::PI_LO;
-use crate::constants::PIO2;
-use crate::constants::PIO2_LO;
-use crate::constants::T0;
-use crate::constants::T1;
-use crate::constants::T2;
-use crate::constants::T3;
-use crate::constants::T4;
-use crate::constants::T5;
-use crate::constants::T6;
-use crate::constants::T7;
-use crate::constants::T8;
-use crate::constants::T9;
-use crate::constants::T10;
-use crate::constants::T11;
-use crate::constants::T12;
-use crate::constants::T13;
-use crate::constants::T14;
-use crate::constants::T15;
-use crate::constants::T16;
-use crate::constants::T17;
-use crate::constants::T18;
-use crate::constants::T19;
-use crate::constants::nan;
+ghost use Rattle.numbers.specs.Arcs.{kasin, near-one, ratio, katan, upper, asin, acos, atan2};
 use crate::roots::sqrt;
+
+// pi and pi / 2, and what each lacks.
+const PI: f64 = 3.141592653589793;
+
+const PI_LO: f64 = 1.2246467991473532e-16;
+
+const PIO2: f64 = 1.5707963267948966;
+
+const PIO2_LO: f64 = 6.123233995736766e-17;
+
+const A0: f64 = 0.16666666666665408;
+
+const A1: f64 = 0.07500000000337143;
+
+const A2: f64 = 0.04464285682823248;
+
+const A3: f64 = 0.030381959140456976;
+
+const A4: f64 = 0.022371757976487848;
+
+const A5: f64 = 0.01735970575444213;
+
+const A6: f64 = 0.01388522671368204;
+
+const A7: f64 = 0.012169263307403994;
+
+const A8: f64 = 0.006527773191929234;
+
+const A9: f64 = 0.01952876827190372;
+
+const A10: f64 = -0.0162249749206657;
+
+const A11: f64 = 0.031912724911284364;
 
 // (asin(s) - s) / s, for a z of s * s, from 0 to 0.25.
 fn kasin(z: f64) -> f64
@@ -58,18 +51,18 @@ fn kasin(z: f64) -> f64
 }
 
 // The arc cosine of a, from 0.5 to 1, as g + q: twice the arc sine of the root of (1 - a) / 2.
-struct Half {
+struct Parts {
     g: f64,
     q: f64,
 }
 
-fn near_one(a: f64) -> Half
-    ensures { λ h. ⌜ h ≡ nearOne a ⌝ }
+fn near_one(a: f64) -> Parts
+    ensures { λ h. ⌜ h ≡ near-one a ⌝ }
 {
     let z = 0.5 * (1.0 - a);
     let s = sqrt(z);
     let g = s + s;
-    Half { g, q: g * kasin(z) }
+    Parts { g, q: g * kasin(z) }
 }
 
 pub fn asin(x: f64) -> f64
@@ -85,7 +78,7 @@ pub fn asin(x: f64) -> f64
             if x < 0.0 { -v } else { v }
         }
     } else {
-        nan()
+        crate::nan()
     }
 }
 
@@ -105,7 +98,7 @@ pub fn acos(x: f64) -> f64
             }
         }
     } else {
-        nan()
+        crate::nan()
     }
 }
 
@@ -116,7 +109,47 @@ fn ratio(n: f64, d: f64) -> f64
     if d == 0.0 { 0.0 } else { n / d }
 }
 
-// hi + lo + the arc tangent of n / d, for an n that is no larger than d.
+const T0: f64 = -0.3333333333333307;
+
+const T1: f64 = 0.19999999999951748;
+
+const T2: f64 = -0.14285714282587975;
+
+const T3: f64 = 0.11111111007338541;
+
+const T4: f64 = -0.09090907007737466;
+
+const T5: f64 = 0.07692279888208729;
+
+const T6: f64 = -0.06666404417716022;
+
+const T7: f64 = 0.05880529776014685;
+
+const T8: f64 = -0.05253526647654008;
+
+const T9: f64 = 0.047223479504406515;
+
+const T10: f64 = -0.04219242629361091;
+
+const T11: f64 = 0.03664314358570091;
+
+const T12: f64 = -0.029905726114505093;
+
+const T13: f64 = 0.021987056854413524;
+
+const T14: f64 = -0.013902561604954674;
+
+const T15: f64 = 0.0071978748094649455;
+
+const T16: f64 = -0.0028856039671883273;
+
+const T17: f64 = 0.0008315575198515723;
+
+const T18: f64 = -0.0001522106732397829;
+
+const T19: f64 = 1.3229952258016625e-05;
+
+// hi + lo + the arc tangent of n / d, for an n no larger in size than d.
 fn katan(n: f64, d: f64, hi: f64, lo: f64) -> f64
     ensures { λ r. ⌜ r ≡ katan n d hi lo ⌝ }
 {
@@ -136,15 +169,13 @@ fn katan(n: f64, d: f64, hi: f64, lo: f64) -> f64
 
 // Whether the sign is set, also of a zero.
 fn negative(x: f64) -> bool
-    requires { ⌜ T (not (isNan x)) ⌝ }
     ensures { λ r. ⌜ r ≡ sign x ⌝ }
 {
-    f64::to_bits(x) >= 0x8000_0000_0000_0000
+    floats::to_bits(x) >= 0x8000_0000_0000_0000
 }
 
 // The angle of the point (x, y), for a y from 0 up.
 fn upper(y: f64, x: f64) -> f64
-    requires { ⌜ T (not (isNan x)) ⌝ }
     ensures { λ r. ⌜ r ≡ upper y x ⌝ }
 {
     if floats::magnitude(x) < y {
@@ -163,6 +194,6 @@ pub fn atan2(y: f64, x: f64) -> f64
         let v = upper(floats::magnitude(y), x);
         if negative(y) { -v } else { v }
     } else {
-        nan()
+        crate::nan()
     }
 }

@@ -1,6 +1,8 @@
 // Roots, angles and the exponential, each a fixed order of binary64 operations.
+ghost use mathlib.Core.Path.{_≡_};
+ghost use lib.Ieee.{nan};
+
 pub mod arcs;
-mod constants;
 pub mod exponential;
 pub mod roots;
 pub mod sines;
@@ -13,3 +15,10 @@ pub use crate::roots::sqrt;
 pub use crate::sines::cos;
 pub use crate::sines::sin;
 pub use crate::sines::tan;
+
+// What a function gives outside its domain.
+fn nan() -> f64
+    ensures { λ r. ⌜ r ≡ nan ⌝ }
+{
+    0.0 / 0.0
+}

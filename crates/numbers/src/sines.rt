@@ -1,28 +1,27 @@
 // Sine, cosine and tangent.
 ghost use mathlib.Core.Path.{_≡_};
 ghost use lib.Ieee.{binary64};
-ghost use Rattle.numbers.specs.Sines.{ksin, kcos, reduce, sineOf, cosineOf, sin, cos, tan};
-use crate::constants::ANGLE_LIMIT;
-use crate::constants::C0;
-use crate::constants::C1;
-use crate::constants::C2;
-use crate::constants::C3;
-use crate::constants::C4;
-use crate::constants::C5;
-use crate::constants::MAGIC;
-use crate::constants::NEAR;
-use crate::constants::P1;
-use crate::constants::P2;
-use crate::constants::P3;
-use crate::constants::S0;
-use crate::constants::S1;
-use crate::constants::S2;
-use crate::constants::S3;
-use crate::constants::S4;
-use crate::constants::S5;
-use crate::constants::TAN_LIMIT;
-use crate::constants::TWO_OVER_PI;
-use crate::constants::nan;
+ghost use Rattle.numbers.specs.Sines.{ksin, kcos, reduce, sine-of, cosine-of, sin, cos, tan};
+
+// Sine and cosine are given from -ANGLE_LIMIT to ANGLE_LIMIT, the tangent from 0 to TAN_LIMIT.
+const ANGLE_LIMIT: f64 = 128.0;
+
+const TAN_LIMIT: f64 = 0.75;
+
+// Up to here an angle is its own remainder.
+const NEAR: f64 = 0.785;
+
+const S0: f64 = 0.1666666666666663;
+
+const S1: f64 = -0.00833333333332184;
+
+const S2: f64 = 0.00019841269829358438;
+
+const S3: f64 = -2.7557313538457614e-06;
+
+const S4: f64 = 2.5050734377788088e-08;
+
+const S5: f64 = -1.5895432532843642e-10;
 
 // sin(r - d), for an r within ±0.7855 and a d that is small beside it.
 fn ksin(r: f64, d: f64) -> f64
@@ -34,6 +33,18 @@ fn ksin(r: f64, d: f64) -> f64
     r - (d + (r * z) * p)
 }
 
+const C0: f64 = 0.041666666666666595;
+
+const C1: f64 = -0.0013888888888873338;
+
+const C2: f64 = 2.4801587288997465e-05;
+
+const C3: f64 = -2.755731421528791e-07;
+
+const C4: f64 = 2.0875705112608293e-09;
+
+const C5: f64 = -1.135873261096118e-11;
+
 // cos(r - d), for the same r and d.
 fn kcos(r: f64, d: f64) -> f64
     ensures { λ c. ⌜ c ≡ kcos r d ⌝ }
@@ -43,6 +54,18 @@ fn kcos(r: f64, d: f64) -> f64
     let p = (C0 + z * C1) + w * ((C2 + z * C3) + w * (C4 + z * C5));
     1.0 - (0.5 * z - (w * p + r * d))
 }
+
+// 1.5 * 2^52: what is added to it is rounded to a whole number.
+const MAGIC: f64 = 6755399441055744.0;
+
+const TWO_OVER_PI: f64 = 0.6366197723675814;
+
+// pi / 2 in three parts. The first two have 45 bits each, so k * P1 and k * P2 are exact.
+const P1: f64 = 1.5707963267948912;
+
+const P2: f64 = 5.390302858158031e-15;
+
+const P3: f64 = 8.843720566135701e-29;
 
 // An angle as k quarter turns and r - d: m is k mod 4, from -2 to 2.
 struct Reduced {
@@ -65,7 +88,7 @@ fn reduce(x: f64) -> Reduced
 
 // The sine of an angle so written.
 fn sine_of(t: Reduced) -> f64
-    ensures { λ s. ⌜ s ≡ sineOf t ⌝ }
+    ensures { λ s. ⌜ s ≡ sine-of t ⌝ }
 {
     if t.m == 0.0 {
         ksin(t.r, t.d)
@@ -79,7 +102,7 @@ fn sine_of(t: Reduced) -> f64
 }
 
 fn cosine_of(t: Reduced) -> f64
-    ensures { λ c. ⌜ c ≡ cosineOf t ⌝ }
+    ensures { λ c. ⌜ c ≡ cosine-of t ⌝ }
 {
     if t.m == 0.0 {
         kcos(t.r, t.d)
@@ -100,7 +123,7 @@ pub fn sin(x: f64) -> f64
     } else if (-ANGLE_LIMIT <= x) & (x <= ANGLE_LIMIT) {
         floats::clamp(sine_of(reduce(x)), -1.0, 1.0)
     } else {
-        nan()
+        crate::nan()
     }
 }
 
@@ -112,7 +135,7 @@ pub fn cos(x: f64) -> f64
     } else if (-ANGLE_LIMIT <= x) & (x <= ANGLE_LIMIT) {
         floats::clamp(cosine_of(reduce(x)), -1.0, 1.0)
     } else {
-        nan()
+        crate::nan()
     }
 }
 
@@ -122,6 +145,6 @@ pub fn tan(x: f64) -> f64
     if (0.0 <= x) & (x <= TAN_LIMIT) {
         floats::clamp(ksin(x, 0.0) / kcos(x, 0.0), 0.0, 1.0)
     } else {
-        nan()
+        crate::nan()
     }
 }

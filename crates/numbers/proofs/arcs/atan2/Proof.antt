@@ -1,15 +1,8 @@
 -- Each branch is the definition's, by the tests that led to it.
 use borrow.Author.Needs.{needs}
-use mathlib.Core.Bool.{not}
-use lib.Dec.{T}
-use lib.Ieee.{isNan}
 use Rattle.numbers.specs.Arcs.{angle}
-use Rattle.numbers.proofs.Patterns.{finite-pair}
 use Rattle.numbers.proofs.arcs.atan2.Statement.{statement}
 use Rattle.numbers.proofs.arcs.atan2.Tie as tie
-
-no-nans : (c : tie.Then1) → T (not (isNan (c .before .before .before .args .y))) × T (not (isNan (c .before .before .before .args .x)))
-no-nans c = finite-pair (c .before .before .before .args .y) (c .before .before .before .args .x) (simp (c .before .finite2 .ensures, c .before .before .finite .ensures) at (c .if1 .taken))
 
 finite-requires : tie.Need-finite-requires
 finite-requires c κs = search needs
@@ -21,10 +14,10 @@ magnitude-requires : tie.Need-magnitude-requires
 magnitude-requires c κs = search needs
 
 upper-requires : tie.Need-upper-requires
-upper-requires c κs = no-nans (c .before) .1
+upper-requires c κs = search needs
 
 negative-requires : tie.Need-negative-requires
-negative-requires c κs = no-nans (c .before .before) .0
+negative-requires c κs = search needs
 
 nan-requires : tie.Need-nan-requires
 nan-requires c κs = search needs

@@ -1,6 +1,6 @@
 -- The code is the definition, line by line.
 use borrow.Author.Needs.{needs}
-use Rattle.numbers.specs.Arcs.{nearOne}
+use Rattle.numbers.specs.Arcs.{near-one}
 use Rattle.numbers.proofs.arcs.near_one.Statement.{statement}
 use Rattle.numbers.proofs.arcs.near_one.Tie as tie
 
@@ -11,7 +11,7 @@ kasin-requires : tie.Need-kasin-requires
 kasin-requires c κs = search needs
 
 returns : tie.Need-returns
-unfolding nearOne
+unfolding near-one
 returns c = simp (c .kasin .ensures, c .before .sqrt .ensures)
 
 pub near-one-spec : {M : Type 1} → statement M

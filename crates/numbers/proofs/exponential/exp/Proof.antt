@@ -1,7 +1,6 @@
--- Each branch is the definition's, by the tests that led to it; the argument of `power` is finite by its bounds.
+-- Each branch is the definition's, by the tests that led to it.
 use borrow.Author.Needs.{needs}
 use Rattle.numbers.specs.Exponential.{exponential}
-use Rattle.numbers.proofs.Patterns.{shifted-no-nan}
 use Rattle.numbers.proofs.exponential.exp.Statement.{statement}
 use Rattle.numbers.proofs.exponential.exp.Tie as tie
 
@@ -9,7 +8,7 @@ kexp-requires : tie.Need-kexp-requires
 kexp-requires c κs = search needs
 
 power-requires : tie.Need-power-requires
-power-requires c κs = shifted-no-nan (c .before .before .args .x) (c .before .if1 .taken)
+power-requires c κs = search needs
 
 clamp-requires : tie.Need-clamp-requires
 clamp-requires c κs = search needs

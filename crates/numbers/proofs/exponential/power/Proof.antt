@@ -1,20 +1,19 @@
--- The mask is a remainder, and the field that it leaves is no NaN's.
+-- The mask is a remainder.
 use borrow.Author.Needs.{needs}
-use lib.Ieee.{binary64, toBits}
 use Rattle.numbers.specs.Exponential.{power}
-use Rattle.numbers.proofs.Patterns.{field-alone, field-no-nan}
+use Rattle.numbers.proofs.Patterns.{field-alone}
 use Rattle.numbers.proofs.exponential.power.Statement.{statement}
 use Rattle.numbers.proofs.exponential.power.Tie as tie
 
-float-to-bits-result : tie.Need-float-to-bits-result
-float-to-bits-result c = search needs
+to-bits-requires : tie.Need-to-bits-requires
+to-bits-requires c κs = search needs
 
-float-from-bits-result : tie.Need-float-from-bits-result
-float-from-bits-result c = rw field-alone (field-no-nan (toBits binary64 (c .args .t)))
+from-bits-requires : tie.Need-from-bits-requires
+from-bits-requires c κs = search needs
 
 returns : tie.Need-returns
 unfolding power
-returns c = rw field-alone
+returns c = rw (c .from-bits .ensures, field-alone, c .before .to-bits .ensures)
 
 pub power-spec : {M : Type 1} → statement M
-power-spec = tie.close (tie.spec float-to-bits-result float-from-bits-result returns)
+power-spec = tie.close (tie.spec to-bits-requires from-bits-requires returns)

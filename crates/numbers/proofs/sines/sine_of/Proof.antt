@@ -1,6 +1,6 @@
 -- Each branch is the definition's, by the tests that led to it.
 use borrow.Author.Needs.{needs}
-use Rattle.numbers.specs.Sines.{sineOf}
+use Rattle.numbers.specs.Sines.{sine-of}
 use Rattle.numbers.proofs.sines.sine_of.Statement.{statement}
 use Rattle.numbers.proofs.sines.sine_of.Tie as tie
 
@@ -17,19 +17,19 @@ ksin-requires-2 : tie.Need-ksin-requires-2
 ksin-requires-2 c κs = search needs
 
 returns : tie.Need-returns
-unfolding sineOf
+unfolding sine-of
 returns c = simp (c .ksin .ensures, c .before .if1 .taken)
 
 returns-2 : tie.Need-returns-2
-unfolding sineOf
+unfolding sine-of
 returns-2 c = simp (c .kcos .ensures, c .before .if2 .taken, c .before .before .before .if1 .left)
 
 returns-3 : tie.Need-returns-3
-unfolding sineOf
+unfolding sine-of
 returns-3 c = simp (c .kcos2 .ensures, c .before .if3 .taken, c .before .before .before .if2 .left, c .before .before .before .before .before .if1 .left)
 
 returns-4 : tie.Need-returns-4
-unfolding sineOf
+unfolding sine-of
 returns-4 c = simp (c .ksin2 .ensures, c .before .if3 .left, c .before .before .before .if2 .left, c .before .before .before .before .before .if1 .left)
 
 pub sine-of-spec : {M : Type 1} → statement M

@@ -1,8 +1,8 @@
 -- 0 / 0 is no number.
 use mathlib.Core.Path.{refl}
 use lib.Ieee.{div, ofBits}
-use Rattle.numbers.proofs.constants.nan.Statement.{statement}
-use Rattle.numbers.proofs.constants.nan.Tie as tie
+use Rattle.numbers.proofs.nan.Statement.{statement}
+use Rattle.numbers.proofs.nan.Tie as tie
 
 returns : tie.Need-returns
 unfolding div ofBits
