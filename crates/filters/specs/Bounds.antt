@@ -11,22 +11,19 @@ use lib.Dec.{T}
 use lib.Ieee.{Float, nan, inf, fin, binary64, ofBits, add, sub, mul, div, neg, lt, eq, le, round, isNan}
 use lib.Ieee.Scale.{finite}
 use lib.Ieee.Positive.{num, den}
-use Rattle.floats.specs.Notation.{Rounded, rounded, zero}
+use Rattle.floats.specs.Notation.{Rounded, rounded}
 use Rattle.floats.specs.Order.{le-tr, Within, within-finite}
 use Rattle.floats.specs.Products.{mul-mono, mul-sym}
 use Rattle.floats.specs.Quotients.{div-anti, positive-up}
 use Rattle.floats.specs.Relative.{undone}
 use Rattle.floats.specs.Intervals.{none, known, Expr, var, lit, neg·, add·, sub·, mul·, div·, bound, inside, bounded}
-use Rattle.numbers.specs.Constants.{between, TAN-LIMIT, EXP-LIMIT}
+use Rattle.numbers.specs.Constants.{𝟎, 𝟏, PI, between, TAN-LIMIT, EXP-LIMIT}
 use Rattle.numbers.specs.Sines.{tan}
 use Rattle.numbers.specs.Exponential.{exp}
 use Rattle.numbers.specs.Ranges.{tan-within, tan-domain, exp-within}
-use Rattle.filters.specs.Coefficients.{𝟏, 𝟐, PI, SQRT-2, angle, coeffs, filter-coeffs, gain-from-tau}
+use Rattle.filters.specs.Coefficients.{𝟐, SQRT-2, angle, coeffs, filter-coeffs, gain-from-tau}
 use Rattle.filters.specs.declared.coeffs.Coeffs.{Coeffs}
 open Rounded (rounded binary64) using (_⊕_, _⊖_, _⊗_, _⊘_)
-
-abbrev 𝟎 : Float
-𝟎 = zero binary64
 
 -- 0.0001 and 10000
 abbrev pub LEAST : Float

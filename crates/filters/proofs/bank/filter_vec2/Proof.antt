@@ -3,7 +3,7 @@ use mathlib.Core.Path.{ap}
 use borrow.Author.Needs.{needs}
 use Prim.Native.Nat.{_-_}
 use lib.Ieee.{binary64}
-use Rattle.filters.specs.Banks.{filtered, outputs, channels}
+use Rattle.filters.specs.Banks.{filtered, outputs, channels, filter-vec2}
 use Rattle.filters.specs.declared.channel.Filtered.{Filtered}
 use Rattle.filters.proofs.Fill.{Filling, filling-more, filling-done}
 use Rattle.filters.proofs.bank.filter_vec2.Statement.{statement}
@@ -63,7 +63,7 @@ loop-again c =
     )
 
 returns : tie.Need-returns Inv-loop μ-loop
-unfolding outputs channels
+unfolding filter-vec2 outputs channels
 returns c =
     let l = c .before .loop in
     let ys = filling-done _ 2 _ (l .y) (l .i) (l .inv .0) (c .loop-test .left) (search needs) in

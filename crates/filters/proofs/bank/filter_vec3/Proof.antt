@@ -3,7 +3,7 @@ use mathlib.Core.Path.{ap}
 use borrow.Author.Needs.{needs}
 use Prim.Native.Nat.{_-_}
 use lib.Ieee.{binary64}
-use Rattle.filters.specs.Banks.{filtered, outputs, channels, of-components}
+use Rattle.filters.specs.Banks.{filtered, outputs, channels, filter-vec3, of-components}
 use Rattle.filters.specs.declared.channel.Filtered.{Filtered}
 use Rattle.filters.proofs.Fill.{Filling, filling-more, filling-done}
 use Rattle.filters.proofs.bank.filter_vec3.Statement.{statement}
@@ -72,7 +72,7 @@ array-read-t37 : tie.Need-array-read-t37 Inv-loop μ-loop
 array-read-t37 c = search needs
 
 returns : tie.Need-returns Inv-loop μ-loop
-unfolding outputs channels
+unfolding filter-vec3 outputs channels
 returns c =
     let l = c .before .loop in
     let ys = filling-done _ 3 _ (l .y) (l .i) (l .inv .0) (c .loop-test .left) (search needs) in
