@@ -8,10 +8,10 @@ use Rattle.filters.proofs.bank.adapt3.Statement.{statement}
 use Rattle.filters.proofs.bank.adapt3.Tie as tie
 
 abbrev Inv-loop : tie.InvT-loop
-Inv-loop old new c last-y channels₀ i₀ channels i = Filling (λ j. filter-adapt-state-for-coeff-change (sample last-y j) old new (channel c j)) 3 c channels i
+Inv-loop old new c ys channels₀ i₀ channels i = Filling (λ j. filter-adapt-state-for-coeff-change (sample ys j) old new (channel c j)) 3 c channels i
 
 abbrev μ-loop : tie.MeasureT-loop
-μ-loop old new c last-y channels₀ i₀ channels i = 3 - i
+μ-loop old new c ys channels₀ i₀ channels i = 3 - i
 
 loop-holds : tie.Need-loop-holds Inv-loop μ-loop
 loop-holds c = search needs
