@@ -7,7 +7,7 @@ use Rattle.algebra.specs.declared.vector.Vector.{Vector}
 use Rattle.limits.specs.Answers.{Told}
 use Rattle.inertial.specs.declared.setters.Sigma.{Sigma}
 use Rattle.vqf.specs.Whole.{ToldAll}
-use Rattle.vqf.specs.Update as update
+use Rattle.vqf.specs.Update as updates
 use Rattle.vqf.specs.Setters as setters
 use Rattle.vqf.specs.declared.types.VQF.{VQF}
 use Rattle.vqf.specs.declared.types.Sample.{Sample}
@@ -35,11 +35,11 @@ three-replies t = record { numbers = t .gyr ∷ t .acc ∷ t .mag ∷ []; left =
 
 module _ (w : Format) where
   abbrev pub reply : VQF → Call → Reply
-  reply f (update-gyr v) = one-reply (update.update-gyr w f v)
-  reply f (update-acc v) = one-reply (update.update-acc w f v)
-  reply f (update-mag v) = one-reply (update.update-mag w f v)
-  reply f (update-gyr-with-ts v ts) = one-reply (update.update-gyr-with-ts w f v ts)
-  reply f (update g a m) = three-replies (update.update w f g a m)
+  reply f (update-gyr v) = one-reply (updates.update-gyr w f v)
+  reply f (update-acc v) = one-reply (updates.update-acc w f v)
+  reply f (update-mag v) = one-reply (updates.update-mag w f v)
+  reply f (update-gyr-with-ts v ts) = one-reply (updates.update-gyr-with-ts w f v ts)
+  reply f (update g a m) = three-replies (updates.update w f g a m)
   reply f (set-tau-acc tau) = one-reply (setters.set-tau-acc w f tau)
   reply f (set-tau-mag tau) = one-reply (setters.set-tau-mag w f tau)
   reply f (set-motion-bias-est-enabled on) = one-reply (setters.set-motion-bias-est-enabled f on)
