@@ -1,3 +1,4 @@
+-- The definition, by the variant that was matched.
 use borrow.Author.Needs.{needs}
 use Rattle.vqf.proofs.build.settings_or_house.Statement.{statement}
 use Rattle.vqf.proofs.build.settings_or_house.Tie as tie

@@ -1,3 +1,4 @@
+-- The definition, by what each call gives.
 use Rattle.vqf.specs.Update.{seen}
 use borrow.Author.Needs.{needs}
 use Rattle.vqf.proofs.update.seen.Statement.{statement}

@@ -1,3 +1,4 @@
+-- The definition, by what each call gives.
 use Rattle.vqf.specs.Build.{house}
 use borrow.Author.Needs.{needs}
 use Rattle.vqf.proofs.types.Params.house.Statement.{statement}

@@ -1,3 +1,4 @@
+-- The definition, by what each call gives.
 use Rattle.vqf.specs.Build.{fresh}
 use borrow.Author.Needs.{needs}
 use Rattle.vqf.proofs.types.VQF.fresh.Statement.{statement}

@@ -1,3 +1,4 @@
+-- The definition, by what each call gives and the tests that led here.
 use Rattle.vqf.specs.Build.{new}
 use borrow.Author.Needs.{needs}
 use Rattle.vqf.proofs.types.VQF.new.Statement.{statement}

@@ -1,3 +1,4 @@
+-- The definition, by what each call gives.
 use borrow.Author.Needs.{needs}
 use Rattle.vqf.proofs.types.VQF.quat_9d.Statement.{statement}
 use Rattle.vqf.proofs.types.VQF.quat_9d.Tie as tie

@@ -1,3 +1,4 @@
+-- The definition, by what each call gives.
 use Rattle.vqf.specs.Setters.{reset-state}
 use borrow.Author.Needs.{needs}
 use Rattle.vqf.proofs.types.VQF.reset_state.Statement.{statement}

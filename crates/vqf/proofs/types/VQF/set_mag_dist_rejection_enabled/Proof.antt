@@ -1,3 +1,4 @@
+-- The definition, by what each call gives and the tests that led here.
 use Rattle.vqf.specs.Setters.{set-mag-dist-rejection-enabled}
 use borrow.Author.Needs.{needs}
 use Rattle.vqf.proofs.types.VQF.set_mag_dist_rejection_enabled.Statement.{statement}

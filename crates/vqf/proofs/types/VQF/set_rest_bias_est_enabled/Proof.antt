@@ -1,3 +1,4 @@
+-- The definition, by what each call gives.
 use Rattle.vqf.specs.Setters.{set-rest-bias-est-enabled}
 use borrow.Author.Needs.{needs}
 use Rattle.vqf.proofs.types.VQF.set_rest_bias_est_enabled.Statement.{statement}

@@ -1,3 +1,4 @@
+-- Each fact is found by search.
 use lib.Ieee.{binary64}
 use Rattle.vqf.specs.Update.{update-gyr, update-acc, update-sample, update}
 use Rattle.vqf.proofs.Threefold.{threefold}

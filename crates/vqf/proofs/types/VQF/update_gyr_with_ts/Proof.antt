@@ -1,3 +1,4 @@
+-- The definition, by what each call gives.
 use mathlib.Core.Path.{ap, _∙_}
 use Rattle.vqf.specs.Whole.{inertially}
 use Rattle.vqf.specs.Update.{update-gyr-with-ts}

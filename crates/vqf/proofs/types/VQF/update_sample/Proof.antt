@@ -1,3 +1,4 @@
+-- The definition, by what each call gives and the variant that was matched.
 use Rattle.vqf.specs.Update.{update-sample}
 use borrow.Author.Needs.{needs}
 use Rattle.vqf.proofs.types.VQF.update_sample.Statement.{statement}
