@@ -1,5 +1,6 @@
 //! expect EXPECTED OUTPUT: checks named fields of an output. A line of EXPECTED is the
 //! number of an output line, a field's name, its word, and nothing else; `#` starts a remark.
+//! expect found EXPECTED OUTPUT: prints the same fields as they are in the output.
 
 #[allow(dead_code)]
 mod fields;
@@ -10,25 +11,45 @@ use std::process::exit;
 
 fn main() {
     let arguments: Vec<String> = env::args().skip(1).collect();
-    let [expected, output] = arguments.as_slice() else {
-        stop("usage: expect EXPECTED OUTPUT");
-    };
-    let output: Vec<String> = read(output).lines().map(str::to_string).collect();
-    let (mut checked, mut wrong) = (0, 0);
-    for line in read(expected).lines() {
-        let line = line.split('#').next().unwrap_or("").trim();
-        if line.is_empty() {
-            continue;
-        }
-        checked += 1;
-        let found = found(&output, line);
+    match arguments.as_slice() {
+        [expected, output] => check(&wanted(expected), &lines(output)),
+        [found, expected, output] if found == "found" => print(&wanted(expected), &lines(output)),
+        _ => stop("usage: expect [found] EXPECTED OUTPUT"),
+    }
+}
+
+fn check(wanted: &[String], output: &[String]) {
+    let mut wrong = 0;
+    for line in wanted {
+        let found = found(output, line);
         if !line.ends_with(&format!(" {found}")) {
             wrong += 1;
             println!("expected {line}, found {found}");
         }
     }
-    println!("{checked} values expected, {wrong} not found");
-    exit(i32::from(wrong != 0 || checked == 0));
+    println!("{} values expected, {wrong} not found", wanted.len());
+    exit(i32::from(wrong != 0 || wanted.is_empty()));
+}
+
+fn print(wanted: &[String], output: &[String]) {
+    for line in wanted {
+        let place = line.rsplit_once(' ').map_or("", |(place, _)| place);
+        println!("{place} {}", found(output, line));
+    }
+}
+
+fn lines(path: &str) -> Vec<String> {
+    read(path).lines().map(str::to_string).collect()
+}
+
+fn wanted(path: &str) -> Vec<String> {
+    let text = |line: &String| line.split('#').next().unwrap_or("").trim().to_string();
+    let lines = lines(path);
+    lines
+        .iter()
+        .map(text)
+        .filter(|line| !line.is_empty())
+        .collect()
 }
 
 fn found(output: &[String], line: &str) -> String {
