@@ -1,0 +1,58 @@
+-- A loop that counts lines up to the largest number.
+use Prim.Native.Nat.{_-_, _≤_}
+use borrow.Author.Needs.{needs}
+use Rattle.calls.proofs.play.Statement.{statement}
+use Rattle.calls.proofs.play.Tie as tie
+
+abbrev Inv-loop : tie.InvT-loop
+Inv-loop buf₀ out₀ to₀ at₀ end₀ bits₀ kinds₀ number₀ buf out to at end bits kinds number = (end ≤ 65536) × (number ≤ 18446744073709551615)
+
+abbrev μ-loop : tie.MeasureT-loop
+μ-loop buf₀ out₀ to₀ at₀ end₀ bits₀ kinds₀ number₀ buf out to at end bits kinds number = 18446744073709551615 - number
+
+loop-holds : tie.Need-loop-holds Inv-loop μ-loop
+loop-holds c = search needs
+
+read-line-requires : tie.Need-read-line-requires Inv-loop μ-loop
+read-line-requires c κs = search needs
+
+returns : tie.Need-returns Inv-loop μ-loop
+returns c = search needs
+
+answer-requires : tie.Need-answer-requires Inv-loop μ-loop
+answer-requires c κs = search needs
+
+put-bad-requires : tie.Need-put-bad-requires Inv-loop μ-loop
+put-bad-requires c κs = search needs
+
+returns-2 : tie.Need-returns-2 Inv-loop μ-loop
+returns-2 c = search needs
+
+add-number : tie.Need-add-number Inv-loop μ-loop
+add-number c = search needs
+
+loop-less : tie.Need-loop-less Inv-loop μ-loop
+loop-less c = search needs
+
+loop-again : tie.Need-loop-again Inv-loop μ-loop
+loop-again c = search needs
+
+returns-3 : tie.Need-returns-3 Inv-loop μ-loop
+returns-3 c = search needs
+
+pub play-spec : {M : Type 1} → statement M
+play-spec =
+    tie.close
+    (tie.spec
+    Inv-loop
+    μ-loop
+    loop-holds
+    read-line-requires
+    returns
+    answer-requires
+    put-bad-requires
+    returns-2
+    add-number
+    loop-less
+    loop-again
+    returns-3)
