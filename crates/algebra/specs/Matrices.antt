@@ -1,4 +1,5 @@
 -- Matrices of three rows and three columns, over the format w.
+use mathlib.Core.Path.{_≡_, refl}
 use mathlib.Core.Bool.{Bool, _&&_, cond}
 use mathlib.Core.List.{List, [], _∷_}
 use Prim.Native.Nat.{ℕ}
@@ -76,6 +77,10 @@ unfoldable pub unflatten : List Float → Matrix
 unflatten l =
     let at : ℕ → Float = λ i. getD l i nan in
     rows (vector (at 0) (at 1) (at 2)) (vector (at 3) (at 4) (at 5)) (vector (at 6) (at 7) (at 8))
+
+pub unflatten-flatten : (m : Matrix) → unflatten (flatten m) ≡ m
+unfolding flatten unflatten
+unflatten-flatten m = refl
 
 unfoldable pub finite : Matrix → Bool
 finite m = vectors.finite (row0 m) && vectors.finite (row1 m) && vectors.finite (row2 m)

@@ -11,10 +11,10 @@ use Rattle.algebra.specs.declared.matrix.Matrix.{Matrix}
 use Rattle.algebra.specs.declared.matrix.Inverse.the-variants.{Singular, Inverted}
 
 -- n and 1 / n
-abbrev whole : ℕ → Float
+abbrev pub whole : ℕ → Float
 whole n = ofInt binary64 (pos n)
 
-abbrev part : ℕ → Float
+abbrev pub part : ℕ → Float
 part n = round binary64 false 1 n
 
 abbrev diagonal : Float → Float → Float → Matrix

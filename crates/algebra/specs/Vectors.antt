@@ -13,6 +13,9 @@ epsilon = constant 0x3400_0000 0x3cb0_0000_0000_0000
 abbrev pub vector : Float → Float → Float → Vector
 vector x y z = record { 0 = x; 1 = y; 2 = z }
 
+abbrev pub origin : Format → Vector
+origin w = vector (zero w) (zero w) (zero w)
+
 -- component by component
 abbrev pub each : (Float → Float) → Vector → Vector
 each f v = vector (f (v .0)) (f (v .1)) (f (v .2))

@@ -20,6 +20,8 @@ fn clipped(x: f64, min: f64, max: f64) -> f64
 }
 
 impl Vector {
+    pub const ZERO: Vector = Vector(0.0, 0.0, 0.0);
+
     pub fn norm(self) -> f64
         ensures { λ r. ⌜ r ≡ norm binary64 self ⌝ }
     {

@@ -51,15 +51,15 @@ module _ (w : Format) where
   unfoldable pub channels : ℕ → List Float → Float → Float → Coeffs → List Channel → List Channel
   channels n xs tau ts k cs = each n (λ i. filtered xs tau ts k cs i .channel)
 
-  abbrev pub filter-vec2 : List Float → Float → Float → Coeffs → List Channel → Filtered2
+  unfoldable pub filter-vec2 : List Float → Float → Float → Coeffs → List Channel → Filtered2
   filter-vec2 xs tau ts k cs = record { y = outputs 2 xs tau ts k cs; channels = channels 2 xs tau ts k cs }
 
-  abbrev pub filter-vec3 : Vector → Float → Float → Coeffs → List Channel → Filtered3
+  unfoldable pub filter-vec3 : Vector → Float → Float → Coeffs → List Channel → Filtered3
   filter-vec3 v tau ts k cs =
       let xs = components v in
       record { y = of-components (outputs 3 xs tau ts k cs); channels = channels 3 xs tau ts k cs }
 
-  abbrev pub filter-vec9 : List Float → Float → Float → Coeffs → List Channel → Filtered9
+  unfoldable pub filter-vec9 : List Float → Float → Float → Coeffs → List Channel → Filtered9
   filter-vec9 xs tau ts k cs = record { y = outputs 9 xs tau ts k cs; channels = channels 9 xs tau ts k cs }
 
   -- the source takes the first memory for the last answer, to which it is close
@@ -69,13 +69,13 @@ module _ (w : Format) where
 unfoldable pub adapted : ℕ → List Float → Coeffs → Coeffs → List Channel → List Channel
 adapted n ys old new cs = each n (λ i. filter-adapt-state-for-coeff-change (sample ys i) old new (channel cs i))
 
-abbrev pub adapt2 : List Float → Coeffs → Coeffs → List Channel → List Channel
+unfoldable pub adapt2 : List Float → Coeffs → Coeffs → List Channel → List Channel
 adapt2 = adapted 2
 
-abbrev pub adapt3 : Vector → Coeffs → Coeffs → List Channel → List Channel
+unfoldable pub adapt3 : Vector → Coeffs → Coeffs → List Channel → List Channel
 adapt3 v = adapted 3 (components v)
 
-abbrev pub adapt9 : List Float → Coeffs → Coeffs → List Channel → List Channel
+unfoldable pub adapt9 : List Float → Coeffs → Coeffs → List Channel → List Channel
 adapt9 = adapted 9
 
 unfoldable pub finite-channels : ℕ → List Channel → Bool

@@ -22,6 +22,7 @@ fresh = averaging (zero binary64) (zero binary64)
 unfoldable pub filter-initial-state : Float → Coeffs → Channel
 filter-initial-state x0 k = running (wide x0 ⊗ (one binary64 ⊖ k .b0)) (wide x0 ⊗ (k .b2 ⊖ k .a2))
 
+-- nothing changes while averaging
 abbrev pub adapt-phase : Float → Coeffs → Coeffs → Phase → Phase
 adapt-phase last-y old new (Averaging count sum) = Averaging count sum
 adapt-phase last-y old new (Running s0 s1) =

@@ -1,7 +1,8 @@
 -- The coefficients of a Butterworth filter of second order, binary64 whatever the format of tau and ts, and the gain of a filter of first order, over the format w.
 use mathlib.Core.Bool.{cond}
 use lib.Ieee.{Float, Format, binary64, ofBits, neg, lt, eq}
-use Rattle.floats.specs.Notation.{Rounded, rounded, zero, one, two, pi, wide}
+use Rattle.floats.specs.Notation.{Rounded, rounded, zero, one, two, wide}
+use Rattle.numbers.specs.Constants.{𝟏, PI}
 use Rattle.numbers.specs.Sines.{tan}
 use Rattle.numbers.specs.Exponential.{exp}
 use Rattle.filters.specs.declared.coeffs.Coeffs.{Coeffs}
@@ -14,14 +15,8 @@ module _ (w : Format) where
 
 open Rounded (rounded binary64) using (_⊕_, _⊖_, _⊗_, _⊘_)
 
-abbrev pub 𝟏 : Float
-𝟏 = one binary64
-
 abbrev pub 𝟐 : Float
 𝟐 = two binary64
-
-abbrev pub PI : Float
-PI = pi binary64
 
 abbrev pub SQRT-2 : Float
 SQRT-2 = ofBits binary64 0x3ff6_a09e_667f_3bcd

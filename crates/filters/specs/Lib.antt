@@ -1,3 +1,6 @@
 pub mod Coefficients
 pub mod Channels
 pub mod Banks
+pub mod Bounds
+pub mod InStep
+pub mod Values

@@ -25,6 +25,7 @@ pub struct Filtered9 {
     pub channels: [Channel; 9],
 }
 
+// A sample into each channel.
 pub fn filter_vec2(x: [f64; 2], tau: f64, ts: f64, coeffs: Coeffs, c: [Channel; 2]) -> Filtered2
     ensures { λ r. ⌜ r ≡ filter-vec2 binary64 x tau ts coeffs c ⌝ }
 {
@@ -41,21 +42,21 @@ pub fn filter_vec2(x: [f64; 2], tau: f64, ts: f64, coeffs: Coeffs, c: [Channel; 
     Filtered2 { y, channels }
 }
 
-pub fn filter_vec3(v: Vector, tau: f64, ts: f64, coeffs: Coeffs, c: [Channel; 3]) -> Filtered3
-    ensures { λ r. ⌜ r ≡ filter-vec3 binary64 v tau ts coeffs c ⌝ }
+pub fn filter_vec3(x: Vector, tau: f64, ts: f64, coeffs: Coeffs, c: [Channel; 3]) -> Filtered3
+    ensures { λ r. ⌜ r ≡ filter-vec3 binary64 x tau ts coeffs c ⌝ }
 {
-    let x = [v.0, v.1, v.2];
-    let mut y = x;
+    let xs = [x.0, x.1, x.2];
+    let mut ys = xs;
     let mut channels = c;
     let mut i = 0;
     while i < 3 {
-        let f = filter_channel(x[i], tau, ts, coeffs, c[i]);
-        y[i] = f.y;
+        let f = filter_channel(xs[i], tau, ts, coeffs, c[i]);
+        ys[i] = f.y;
         let d = f.channel;
         channels[i] = d;
         i += 1;
     }
-    let y = Vector(y[0], y[1], y[2]);
+    let y = Vector(ys[0], ys[1], ys[2]);
     Filtered3 { y, channels }
 }
 
@@ -75,6 +76,7 @@ pub fn filter_vec9(x: [f64; 9], tau: f64, ts: f64, coeffs: Coeffs, c: [Channel; 
     Filtered9 { y, channels }
 }
 
+// Each channel for new coefficients, after its answer in last_y.
 pub fn adapt2(last_y: [f64; 2], old: Coeffs, new: Coeffs, c: [Channel; 2]) -> [Channel; 2]
     ensures { λ r. ⌜ r ≡ adapt2 «last_y» old new c ⌝ }
 {
@@ -88,14 +90,14 @@ pub fn adapt2(last_y: [f64; 2], old: Coeffs, new: Coeffs, c: [Channel; 2]) -> [C
     channels
 }
 
-pub fn adapt3(v: Vector, old: Coeffs, new: Coeffs, c: [Channel; 3]) -> [Channel; 3]
-    ensures { λ r. ⌜ r ≡ adapt3 v old new c ⌝ }
+pub fn adapt3(last_y: Vector, old: Coeffs, new: Coeffs, c: [Channel; 3]) -> [Channel; 3]
+    ensures { λ r. ⌜ r ≡ adapt3 «last_y» old new c ⌝ }
 {
-    let last_y = [v.0, v.1, v.2];
+    let ys = [last_y.0, last_y.1, last_y.2];
     let mut channels = c;
     let mut i = 0;
     while i < 3 {
-        let d = filter_adapt_state_for_coeff_change(last_y[i], old, new, c[i]);
+        let d = filter_adapt_state_for_coeff_change(ys[i], old, new, c[i]);
         channels[i] = d;
         i += 1;
     }
@@ -115,6 +117,7 @@ pub fn adapt9(last_y: [f64; 9], old: Coeffs, new: Coeffs, c: [Channel; 9]) -> [C
     channels
 }
 
+// Each channel's count or first memory.
 pub fn first_numbers2(c: [Channel; 2]) -> [f64; 2]
     ensures { λ r. ⌜ r ≡ first-numbers binary64 2 c ⌝ }
 {
@@ -139,6 +142,7 @@ pub fn first_numbers9(c: [Channel; 9]) -> [f64; 9]
     numbers
 }
 
+// Whether all that the channels store is finite.
 pub fn finite_channels2(c: [Channel; 2]) -> bool
     ensures { λ r. ⌜ r ≡ finite-channels 2 c ⌝ }
 {

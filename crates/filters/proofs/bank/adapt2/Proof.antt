@@ -1,8 +1,8 @@
 -- After i turns the first i channels are adapted.
 use borrow.Author.Needs.{needs}
-use Prim.Native.Nat.{ℕ, _-_}
+use Prim.Native.Nat.{_-_}
 use Rattle.filters.specs.Channels.{filter-adapt-state-for-coeff-change}
-use Rattle.filters.specs.Banks.{sample, channel, adapted}
+use Rattle.filters.specs.Banks.{sample, channel, adapted, adapt2}
 use Rattle.filters.proofs.Fill.{Filling, filling-more, filling-done}
 use Rattle.filters.proofs.bank.adapt2.Statement.{statement}
 use Rattle.filters.proofs.bank.adapt2.Tie as tie
@@ -54,7 +54,7 @@ loop-again c =
     filling-more _ 2 _ (l .channels) (l .i) _ (l .inv) (c .before .before .loop-test .taken) (search needs) (c .filter-adapt-state-for-coeff-change .ensures)
 
 returns : tie.Need-returns Inv-loop μ-loop
-unfolding adapted
+unfolding adapt2 adapted
 returns c = let l = c .before .loop in filling-done _ 2 _ (l .channels) (l .i) (l .inv) (c .loop-test .left) (search needs)
 
 pub adapt2-spec : {M : Type 1} → statement M

@@ -1,17 +1,17 @@
 -- After i turns the first i channels are adapted.
 use borrow.Author.Needs.{needs}
-use Prim.Native.Nat.{ℕ, _-_}
+use Prim.Native.Nat.{_-_}
 use Rattle.filters.specs.Channels.{filter-adapt-state-for-coeff-change}
-use Rattle.filters.specs.Banks.{sample, channel, adapted}
+use Rattle.filters.specs.Banks.{sample, channel, adapted, adapt3}
 use Rattle.filters.proofs.Fill.{Filling, filling-more, filling-done}
 use Rattle.filters.proofs.bank.adapt3.Statement.{statement}
 use Rattle.filters.proofs.bank.adapt3.Tie as tie
 
 abbrev Inv-loop : tie.InvT-loop
-Inv-loop old new c last-y channels₀ i₀ channels i = Filling (λ j. filter-adapt-state-for-coeff-change (sample last-y j) old new (channel c j)) 3 c channels i
+Inv-loop old new c ys channels₀ i₀ channels i = Filling (λ j. filter-adapt-state-for-coeff-change (sample ys j) old new (channel c j)) 3 c channels i
 
 abbrev μ-loop : tie.MeasureT-loop
-μ-loop old new c last-y channels₀ i₀ channels i = 3 - i
+μ-loop old new c ys channels₀ i₀ channels i = 3 - i
 
 loop-holds : tie.Need-loop-holds Inv-loop μ-loop
 loop-holds c = search needs
@@ -54,7 +54,7 @@ loop-again c =
     filling-more _ 3 _ (l .channels) (l .i) _ (l .inv) (c .before .before .loop-test .taken) (search needs) (c .filter-adapt-state-for-coeff-change .ensures)
 
 returns : tie.Need-returns Inv-loop μ-loop
-unfolding adapted
+unfolding adapt3 adapted
 returns c = let l = c .before .loop in filling-done _ 3 _ (l .channels) (l .i) (l .inv) (c .loop-test .left) (search needs)
 
 pub adapt3-spec : {M : Type 1} → statement M

@@ -1,9 +1,9 @@
 -- After i turns the first i answers and channels are the definition's.
 use mathlib.Core.Path.{ap}
 use borrow.Author.Needs.{needs}
-use Prim.Native.Nat.{ℕ, _-_}
-use lib.Ieee.{Float, binary64}
-use Rattle.filters.specs.Banks.{filtered, outputs, channels}
+use Prim.Native.Nat.{_-_}
+use lib.Ieee.{binary64}
+use Rattle.filters.specs.Banks.{filtered, outputs, channels, filter-vec2}
 use Rattle.filters.specs.declared.channel.Filtered.{Filtered}
 use Rattle.filters.proofs.Fill.{Filling, filling-more, filling-done}
 use Rattle.filters.proofs.bank.filter_vec2.Statement.{statement}
@@ -57,11 +57,13 @@ loop-again : tie.Need-loop-again Inv-loop μ-loop
 loop-again c =
     let l = c .before .before .before .before .loop in
     let h = c .before .before .before .loop-test .taken in
-    let e = c .before .filter-channel .ensures in
-    (filling-more _ 2 _ (l .y) (l .i) _ (l .inv .0) h (search needs) (ap (λ (f : Filtered). f .y) e), filling-more _ 2 _ (l .channels) (l .i) _ (l .inv .1) h (search needs) (ap (λ (f : Filtered). f .channel) e))
+    let e = c .before .filter-channel .ensures in (
+      filling-more _ 2 _ (l .y) (l .i) _ (l .inv .0) h (search needs) (ap (λ (f : Filtered). f .y) e),
+      filling-more _ 2 _ (l .channels) (l .i) _ (l .inv .1) h (search needs) (ap (λ (f : Filtered). f .channel) e),
+    )
 
 returns : tie.Need-returns Inv-loop μ-loop
-unfolding outputs channels
+unfolding filter-vec2 outputs channels
 returns c =
     let l = c .before .loop in
     let ys = filling-done _ 2 _ (l .y) (l .i) (l .inv .0) (c .loop-test .left) (search needs) in

@@ -1,21 +1,21 @@
 -- After i turns the first i answers and channels are the definition's.
 use mathlib.Core.Path.{ap}
 use borrow.Author.Needs.{needs}
-use Prim.Native.Nat.{ℕ, _-_}
-use lib.Ieee.{Float, binary64}
-use Rattle.filters.specs.Banks.{filtered, outputs, channels, components, of-components}
+use Prim.Native.Nat.{_-_}
+use lib.Ieee.{binary64}
+use Rattle.filters.specs.Banks.{filtered, outputs, channels, filter-vec3, of-components}
 use Rattle.filters.specs.declared.channel.Filtered.{Filtered}
 use Rattle.filters.proofs.Fill.{Filling, filling-more, filling-done}
 use Rattle.filters.proofs.bank.filter_vec3.Statement.{statement}
 use Rattle.filters.proofs.bank.filter_vec3.Tie as tie
 
 abbrev Inv-loop : tie.InvT-loop
-Inv-loop tau ts coeffs c x y₀ channels₀ i₀ y channels i =
-    Filling (λ j. filtered binary64 x tau ts coeffs c j .y) 3 x y i
-    × Filling (λ j. filtered binary64 x tau ts coeffs c j .channel) 3 c channels i
+Inv-loop tau ts coeffs c xs ys₀ channels₀ i₀ ys channels i =
+    Filling (λ j. filtered binary64 xs tau ts coeffs c j .y) 3 xs ys i
+    × Filling (λ j. filtered binary64 xs tau ts coeffs c j .channel) 3 c channels i
 
 abbrev μ-loop : tie.MeasureT-loop
-μ-loop tau ts coeffs c x y₀ channels₀ i₀ y channels i = 3 - i
+μ-loop tau ts coeffs c xs ys₀ channels₀ i₀ ys channels i = 3 - i
 
 loop-holds : tie.Need-loop-holds Inv-loop μ-loop
 loop-holds c = search needs
@@ -35,11 +35,11 @@ array-copy-out-filter-channel c = search needs
 filter-channel-requires : tie.Need-filter-channel-requires Inv-loop μ-loop
 filter-channel-requires c κs = search needs
 
-mul-y : tie.Need-mul-y Inv-loop μ-loop
-mul-y c = search needs
+mul-ys : tie.Need-mul-ys Inv-loop μ-loop
+mul-ys c = search needs
 
-array-write-y : tie.Need-array-write-y Inv-loop μ-loop
-array-write-y c = search needs
+array-write-ys : tie.Need-array-write-ys Inv-loop μ-loop
+array-write-ys c = search needs
 
 mul-channels : tie.Need-mul-channels Inv-loop μ-loop
 mul-channels c = search needs
@@ -57,8 +57,10 @@ loop-again : tie.Need-loop-again Inv-loop μ-loop
 loop-again c =
     let l = c .before .before .before .before .loop in
     let h = c .before .before .before .loop-test .taken in
-    let e = c .before .filter-channel .ensures in
-    (filling-more _ 3 _ (l .y) (l .i) _ (l .inv .0) h (search needs) (ap (λ (f : Filtered). f .y) e), filling-more _ 3 _ (l .channels) (l .i) _ (l .inv .1) h (search needs) (ap (λ (f : Filtered). f .channel) e))
+    let e = c .before .filter-channel .ensures in (
+      filling-more _ 3 _ (l .ys) (l .i) _ (l .inv .0) h (search needs) (ap (λ (f : Filtered). f .y) e),
+      filling-more _ 3 _ (l .channels) (l .i) _ (l .inv .1) h (search needs) (ap (λ (f : Filtered). f .channel) e),
+    )
 
 array-read-t31 : tie.Need-array-read-t31 Inv-loop μ-loop
 array-read-t31 c = search needs
@@ -70,10 +72,10 @@ array-read-t37 : tie.Need-array-read-t37 Inv-loop μ-loop
 array-read-t37 c = search needs
 
 returns : tie.Need-returns Inv-loop μ-loop
-unfolding outputs channels
+unfolding filter-vec3 outputs channels
 returns c =
     let l = c .before .loop in
-    let ys = filling-done _ 3 _ (l .y) (l .i) (l .inv .0) (c .loop-test .left) (search needs) in
+    let ys = filling-done _ 3 _ (l .ys) (l .i) (l .inv .0) (c .loop-test .left) (search needs) in
     let cs = filling-done _ 3 _ (l .channels) (l .i) (l .inv .1) (c .loop-test .left) (search needs) in
     λ j. record { y = of-components (ys j); channels = cs j }
 
@@ -89,8 +91,8 @@ filter-vec3-spec =
     mul-filter-channel-2
     array-copy-out-filter-channel
     filter-channel-requires
-    mul-y
-    array-write-y
+    mul-ys
+    array-write-ys
     mul-channels
     array-set-from-channels
     add-i

@@ -1,6 +1,6 @@
 -- After i turns the flag says whether the first i channels are finite.
 use borrow.Author.Needs.{needs}
-use Prim.Native.Nat.{ℕ, _-_}
+use Prim.Native.Nat.{_-_}
 use Rattle.filters.specs.Channels.{finite-channel}
 use Rattle.filters.specs.Banks.{channel, finite-channels}
 use Rattle.filters.proofs.Fill.{Checking, checking-more, checking-done}

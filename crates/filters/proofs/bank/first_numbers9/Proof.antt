@@ -1,6 +1,6 @@
 -- After i turns the first i numbers are the channels' first.
 use borrow.Author.Needs.{needs}
-use Prim.Native.Nat.{ℕ, _-_}
+use Prim.Native.Nat.{_-_}
 use Rattle.filters.specs.Channels.{first-number}
 use Rattle.filters.specs.Banks.{channel, first-numbers}
 use Rattle.filters.proofs.Fill.{Filling, filling-more, filling-done}
