@@ -1,3 +1,4 @@
+-- The definition, by what each call gives and the tests that led here.
 use Rattle.inertial.specs.Acc.{acc-rest}
 use borrow.Author.Needs.{needs}
 use Rattle.inertial.proofs.acc.acc_rest.Statement.{statement}

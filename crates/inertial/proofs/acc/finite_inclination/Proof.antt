@@ -1,3 +1,4 @@
+-- The definition, by what each call gives.
 use Rattle.inertial.specs.Acc.{finite-inclination}
 use borrow.Author.Needs.{needs}
 use Rattle.inertial.proofs.acc.finite_inclination.Statement.{statement}

@@ -1,3 +1,4 @@
+-- The definition, by what each call gives.
 use Rattle.inertial.specs.Acc.{inclined}
 use borrow.Author.Needs.{needs}
 use Rattle.inertial.proofs.acc.inclined.Statement.{statement}

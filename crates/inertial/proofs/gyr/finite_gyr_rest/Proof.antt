@@ -1,3 +1,4 @@
+-- The definition, by what each call gives.
 use Rattle.inertial.specs.Gyr.{finite-gyr-rest}
 use borrow.Author.Needs.{needs}
 use Rattle.inertial.proofs.gyr.finite_gyr_rest.Statement.{statement}

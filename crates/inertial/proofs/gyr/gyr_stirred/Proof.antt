@@ -1,3 +1,4 @@
+-- The definition, by what each call gives.
 use Rattle.inertial.specs.Gyr.{gyr-stirred}
 use borrow.Author.Needs.{needs}
 use Rattle.inertial.proofs.gyr.gyr_stirred.Statement.{statement}

@@ -1,3 +1,4 @@
+-- The code is the definition, operation by operation.
 use mathlib.Core.Path.{refl}
 use Rattle.inertial.specs.Gyr.{squared-deviation}
 use Rattle.inertial.proofs.gyr.squared_deviation.Statement.{statement}

@@ -1,3 +1,4 @@
+-- The definition, by what each call gives.
 use Rattle.inertial.specs.Kalman.{at-rest}
 use borrow.Author.Needs.{needs}
 use Rattle.inertial.proofs.kalman.at_rest.Statement.{statement}

@@ -1,3 +1,4 @@
+-- The definition, by what each call gives, the tests that led here and the variant that was matched.
 use Rattle.inertial.specs.Kalman.{estimated}
 use borrow.Author.Needs.{needs}
 use Rattle.inertial.proofs.kalman.estimated.Statement.{statement}

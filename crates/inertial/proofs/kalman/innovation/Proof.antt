@@ -1,3 +1,4 @@
+-- The definition, by what each call gives.
 use Rattle.inertial.specs.Kalman.{innovation}
 use borrow.Author.Needs.{needs}
 use Rattle.inertial.proofs.kalman.innovation.Statement.{statement}

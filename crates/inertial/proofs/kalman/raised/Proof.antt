@@ -1,3 +1,4 @@
+-- Each branch is the definition's, by the tests that led to it.
 use Rattle.inertial.specs.Kalman.{raised}
 use Rattle.inertial.proofs.kalman.raised.Statement.{statement}
 use Rattle.inertial.proofs.kalman.raised.Tie as tie

@@ -1,3 +1,4 @@
+-- The definition, by what each call gives and the variant that was matched.
 use Rattle.inertial.specs.Kalman.{updated-bias}
 use borrow.Author.Needs.{needs}
 use Rattle.inertial.proofs.kalman.updated_bias.Statement.{statement}

@@ -1,3 +1,4 @@
+-- The definition, by what each call gives.
 use Rattle.inertial.specs.Setters.{adapted-inclination}
 use borrow.Author.Needs.{needs}
 use Rattle.inertial.proofs.setters.adapted_inclination.Statement.{statement}

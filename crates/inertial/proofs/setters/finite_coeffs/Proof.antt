@@ -1,3 +1,4 @@
+-- The definition, by what each call gives.
 use Rattle.inertial.specs.Setters.{finite-coeffs}
 use borrow.Author.Needs.{needs}
 use Rattle.inertial.proofs.setters.finite_coeffs.Statement.{statement}

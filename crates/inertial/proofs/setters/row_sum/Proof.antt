@@ -1,3 +1,4 @@
+-- The definition, by what each call gives.
 use Rattle.inertial.specs.Setters.{row-sum}
 use borrow.Author.Needs.{needs}
 use Rattle.inertial.proofs.setters.row_sum.Statement.{statement}

@@ -1,3 +1,4 @@
+-- The code is the definition, operation by operation.
 use mathlib.Core.Path.{refl}
 use Rattle.inertial.specs.Setters.{variance}
 use Rattle.inertial.proofs.setters.variance.Statement.{statement}

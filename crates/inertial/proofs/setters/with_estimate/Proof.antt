@@ -1,3 +1,4 @@
+-- The definition, by what each call gives and the variant that was matched.
 use Rattle.inertial.specs.Setters.{with-estimate}
 use borrow.Author.Needs.{needs}
 use Rattle.inertial.proofs.setters.with_estimate.Statement.{statement}

@@ -1,3 +1,4 @@
+-- The definition, by what each call gives.
 use Rattle.inertial.specs.Setup.{bias-coefficients}
 use borrow.Author.Needs.{needs}
 use Rattle.inertial.proofs.setup.bias_coefficients.Statement.{statement}

@@ -1,3 +1,4 @@
+-- The definition, by what each call gives.
 use Rattle.inertial.specs.Setup.{bias-params-taken}
 use borrow.Author.Needs.{needs}
 use Rattle.inertial.proofs.setup.bias_params_taken.Statement.{statement}

@@ -1,3 +1,4 @@
+-- Each branch is the definition's, by the tests that led to it.
 use Rattle.magnetic.specs.Fields.{candidate-time}
 use Rattle.magnetic.proofs.field.candidate_time.Statement.{statement}
 use Rattle.magnetic.proofs.field.candidate_time.Tie as tie

@@ -1,3 +1,4 @@
+-- The definition, by what each call gives.
 use Rattle.magnetic.specs.Fields.{counted-candidate}
 use borrow.Author.Needs.{needs}
 use Rattle.magnetic.proofs.field.counted_candidate.Statement.{statement}

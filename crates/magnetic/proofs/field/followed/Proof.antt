@@ -1,3 +1,4 @@
+-- The code is the definition, operation by operation.
 use mathlib.Core.Path.{refl}
 use Rattle.magnetic.specs.Fields.{followed}
 use Rattle.magnetic.proofs.field.followed.Statement.{statement}

@@ -1,3 +1,4 @@
+-- The definition, by what each call gives.
 use Rattle.magnetic.specs.Fields.{norm-and-dip}
 use borrow.Author.Needs.{needs}
 use Rattle.magnetic.proofs.field.norm_and_dip.Statement.{statement}

@@ -1,3 +1,4 @@
+-- The definition, by what each call gives and the variant that was matched.
 use Rattle.magnetic.specs.Fields.{smoothed}
 use borrow.Author.Needs.{needs}
 use Rattle.magnetic.proofs.field.smoothed.Statement.{statement}

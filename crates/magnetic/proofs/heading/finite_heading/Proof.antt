@@ -1,3 +1,4 @@
+-- The definition, by what each call gives.
 use Rattle.magnetic.specs.Headings.{finite-heading}
 use borrow.Author.Needs.{needs}
 use Rattle.magnetic.proofs.heading.finite_heading.Statement.{statement}

@@ -1,3 +1,4 @@
+-- Each branch is the definition's, by the tests that led to it.
 use Rattle.magnetic.specs.Headings.{lifted}
 use Rattle.magnetic.proofs.heading.lifted.Statement.{statement}
 use Rattle.magnetic.proofs.heading.lifted.Tie as tie

@@ -1,3 +1,4 @@
+-- Each branch is the definition's, by the tests that led to it.
 use Rattle.magnetic.specs.Headings.{next-init}
 use Rattle.magnetic.proofs.heading.next_init.Statement.{statement}
 use Rattle.magnetic.proofs.heading.next_init.Tie as tie

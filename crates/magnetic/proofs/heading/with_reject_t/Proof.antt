@@ -1,3 +1,4 @@
+-- The code is the definition, operation by operation.
 use mathlib.Core.Path.{refl}
 use Rattle.magnetic.specs.Told.{with-reject-t}
 use Rattle.magnetic.proofs.heading.with_reject_t.Statement.{statement}

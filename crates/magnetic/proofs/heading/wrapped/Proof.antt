@@ -1,3 +1,4 @@
+-- Each branch is the definition's, by the tests that led to it.
 use Rattle.magnetic.specs.Headings.{wrapped}
 use Rattle.magnetic.proofs.heading.wrapped.Statement.{statement}
 use Rattle.magnetic.proofs.heading.wrapped.Tie as tie

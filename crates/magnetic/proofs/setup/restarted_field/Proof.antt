@@ -1,3 +1,4 @@
+-- The code is the definition, operation by operation.
 use mathlib.Core.Path.{refl}
 use Rattle.magnetic.specs.Setup.{restarted-field}
 use Rattle.magnetic.proofs.setup.restarted_field.Statement.{statement}

@@ -1,3 +1,4 @@
+-- The definition, by what each call gives.
 use Rattle.magnetic.specs.Setup.{thresholds-taken}
 use borrow.Author.Needs.{needs}
 use Rattle.magnetic.proofs.setup.thresholds_taken.Statement.{statement}

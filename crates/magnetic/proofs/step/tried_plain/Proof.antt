@@ -1,3 +1,4 @@
+-- The definition, by what each call gives.
 use Rattle.magnetic.specs.Step.{tried-plain}
 use borrow.Author.Needs.{needs}
 use Rattle.magnetic.proofs.step.tried_plain.Statement.{statement}

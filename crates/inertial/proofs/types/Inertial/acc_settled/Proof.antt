@@ -1,3 +1,4 @@
+-- Each branch is the definition's, by the tests that led to it.
 use Rattle.inertial.specs.Acc.{acc-settled}
 use Rattle.inertial.proofs.types.Inertial.acc_settled.Statement.{statement}
 use Rattle.inertial.proofs.types.Inertial.acc_settled.Tie as tie

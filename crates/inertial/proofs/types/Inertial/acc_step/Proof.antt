@@ -1,3 +1,4 @@
+-- The definition, by what each call gives.
 use Rattle.inertial.specs.Acc.{acc-step}
 use borrow.Author.Needs.{needs}
 use Rattle.inertial.proofs.types.Inertial.acc_step.Statement.{statement}

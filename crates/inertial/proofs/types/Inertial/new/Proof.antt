@@ -1,3 +1,4 @@
+-- The definition, by what each call gives.
 use Rattle.inertial.specs.Setup.{new}
 use borrow.Author.Needs.{needs}
 use Rattle.inertial.proofs.types.Inertial.new.Statement.{statement}

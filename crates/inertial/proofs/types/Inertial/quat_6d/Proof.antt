@@ -1,3 +1,4 @@
+-- The definition, by what each call gives.
 use Rattle.inertial.specs.Setters.{quat-6d}
 use borrow.Author.Needs.{needs}
 use Rattle.inertial.proofs.types.Inertial.quat_6d.Statement.{statement}

@@ -1,3 +1,4 @@
+-- The definition, by what each call gives.
 use Rattle.inertial.specs.Setters.{relative-rest-deviations}
 use borrow.Author.Needs.{needs}
 use Rattle.inertial.proofs.types.Inertial.relative_rest_deviations.Statement.{statement}

@@ -1,3 +1,4 @@
+-- The definition, by what each call gives.
 use Rattle.inertial.specs.Setters.{reset-state}
 use borrow.Author.Needs.{needs}
 use Rattle.inertial.proofs.types.Inertial.reset_state.Statement.{statement}

@@ -1,3 +1,4 @@
+-- The definition, by what each call gives and the tests that led here.
 use Rattle.inertial.specs.Setters.{set-bias-estimate}
 use borrow.Author.Needs.{needs}
 use Rattle.inertial.proofs.types.Inertial.set_bias_estimate.Statement.{statement}

@@ -1,3 +1,4 @@
+-- The code is the definition, operation by operation.
 use mathlib.Core.Path.{refl}
 use Rattle.inertial.specs.Setters.{set-mag-dist-rejection-enabled}
 use Rattle.inertial.proofs.types.Inertial.set_mag_dist_rejection_enabled.Statement.{

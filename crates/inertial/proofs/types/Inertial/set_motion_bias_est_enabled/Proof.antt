@@ -1,3 +1,4 @@
+-- Each branch is the definition's, by the tests that led to it.
 use Rattle.inertial.specs.Setters.{set-motion-bias-est-enabled}
 use Rattle.inertial.proofs.types.Inertial.set_motion_bias_est_enabled.Statement.{statement}
 use Rattle.inertial.proofs.types.Inertial.set_motion_bias_est_enabled.Tie as tie

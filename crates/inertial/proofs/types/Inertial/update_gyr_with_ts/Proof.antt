@@ -1,3 +1,4 @@
+-- The definition, by what each call gives and the tests that led here.
 use Rattle.inertial.specs.Gyr.{update-gyr-with-ts}
 use borrow.Author.Needs.{needs}
 use Rattle.inertial.proofs.types.Inertial.update_gyr_with_ts.Statement.{statement}

@@ -1,3 +1,4 @@
+-- The code is the definition, operation by operation.
 use mathlib.Core.Path.{refl}
 use Rattle.inertial.specs.Setup.{fresh-rest}
 use Rattle.inertial.proofs.types.Rest.fresh.Statement.{statement}

@@ -1,3 +1,4 @@
+-- The definition, by what each call gives.
 use Rattle.magnetic.specs.Setup.{new}
 use borrow.Author.Needs.{needs}
 use Rattle.magnetic.proofs.types.Magnetic.new.Statement.{statement}

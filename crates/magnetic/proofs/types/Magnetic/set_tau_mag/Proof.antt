@@ -1,3 +1,4 @@
+-- The definition, by what each call gives and the tests that led here.
 use Rattle.magnetic.specs.Setters.{set-tau-mag}
 use borrow.Author.Needs.{needs}
 use Rattle.magnetic.proofs.types.Magnetic.set_tau_mag.Statement.{statement}

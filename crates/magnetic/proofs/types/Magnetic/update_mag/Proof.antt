@@ -1,3 +1,4 @@
+-- The definition, by what each call gives and the tests that led here.
 use Rattle.magnetic.specs.Step.{update-mag}
 use borrow.Author.Needs.{needs}
 use Rattle.magnetic.proofs.types.Magnetic.update_mag.Statement.{statement}

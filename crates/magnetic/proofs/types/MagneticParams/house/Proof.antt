@@ -1,3 +1,4 @@
+-- The code is the definition, operation by operation.
 use mathlib.Core.Path.{refl}
 use Rattle.magnetic.specs.Setup.{house}
 use Rattle.magnetic.proofs.types.MagneticParams.house.Statement.{statement}

@@ -1,3 +1,4 @@
+-- The definition, by what each call gives.
 use Rattle.magnetic.specs.Setup.{fresh-state}
 use borrow.Author.Needs.{needs}
 use Rattle.magnetic.proofs.types.MagneticState.fresh.Statement.{statement}
