@@ -1,6 +1,7 @@
 // Words of the standard input, which is read a buffer at a time: the bytes from `at` to `end` are
 // still to be taken.
-ghost use Prim.Native.Nat.{_≤_};
+ghost use Prim.Native.Nat.{_≤_, _<_};
+use algebra::Vector;
 use libc::STDIN_FILENO;
 
 // What follows the last byte.
@@ -19,7 +20,7 @@ const ZERO: u64 = 0x0130;
 
 const ONE: u64 = 0x0131;
 
-const HOUSE: u64 = 0x01_686f_7573_65;
+const HOUSE: u64 = 0x0168_6f75_7365;
 
 // The packed text of a short word, or 0; the bits of a number, or 0; what kind of argument the word
 // would be, as one byte; and what follows it.
@@ -30,11 +31,14 @@ pub struct Word {
     pub stop: u64,
 }
 
-// The first word of a line and how many words follow it. Where the input has ended there is no line.
+// A line: its first word, how many arguments follow, and the bits and the kind of each. Where the
+// input has ended there is no line.
 pub struct Line {
     pub name: u64,
     pub count: usize,
     pub ended: bool,
+    pub bits: [u64; 28],
+    pub kinds: [u8; 28],
 }
 
 fn wide(byte: u8) -> u64 {
@@ -125,18 +129,13 @@ fn read_word(buf: &mut [u8; 65536], at: &mut usize, end: &mut usize) -> Word
     word_of(17, text, bits, is_hex, SPACE)
 }
 
-// Takes a line, and puts the bits and the kinds of its arguments into the arrays. A line with more
-// arguments than any call has, has the name of none.
-pub fn read_line(
-    buf: &mut [u8; 65536],
-    at: &mut usize,
-    end: &mut usize,
-    bits: &mut [u64; 28],
-    kinds: &mut [u8; 28],
-) -> Line
+// The next line. One with more arguments than any call has, has the name of none.
+pub fn read_line(buf: &mut [u8; 65536], at: &mut usize, end: &mut usize) -> Line
     requires { ⌜ now end ≤ 65536 ⌝ }
     ensures { λ r. ⌜ now (end .exit) ≤ 65536 ⌝ }
 {
+    let mut bits = [0u64; 28];
+    let mut kinds = [0u8; 28];
     let first = read_word(buf, at, end);
     if first.stop != SPACE {
         let ended = (first.stop == END) & (first.text == EMPTY);
@@ -144,6 +143,8 @@ pub fn read_line(
             name: first.text,
             count: 0,
             ended,
+            bits,
+            kinds,
         };
     }
     for i in 0..28usize {
@@ -155,6 +156,8 @@ pub fn read_line(
                 name: first.text,
                 count: i + 1,
                 ended: false,
+                bits,
+                kinds,
             };
         }
     }
@@ -162,6 +165,8 @@ pub fn read_line(
         name: 0,
         count: 0,
         ended: false,
+        bits,
+        kinds,
     }
 }
 
@@ -175,17 +180,44 @@ fn is_of_kind(kind: u8, wanted: u8) -> bool {
 
 // Whether the arguments are those of a shape: n for a number, o for one that may be a dash, s for a
 // switch, h for house.
-pub fn is_shaped(kinds: &[u8; 28], count: usize, shape: &[u8]) -> bool {
-    if count != shape.len() {
+pub fn is_shaped(line: Line, shape: &[u8]) -> bool {
+    if line.count != shape.len() {
         return false;
     }
-    if shape.len() > 28 {
-        return false;
-    }
-    for i in 0..shape.len() {
-        if !is_of_kind(kinds[i], shape[i]) {
-            return false;
+    let kinds = line.kinds;
+    for i in 0..28usize {
+        if i < shape.len() {
+            if !is_of_kind(kinds[i], shape[i]) {
+                return false;
+            }
         }
     }
     true
+}
+
+pub fn number(line: Line, i: usize) -> f64
+    requires { ⌜ i < 28 ⌝ }
+{
+    let bits = line.bits;
+    floats::from_bits(bits[i])
+}
+
+pub fn vector(line: Line, i: usize) -> Vector
+    requires { ⌜ i < 26 ⌝ }
+{
+    Vector(number(line, i), number(line, i + 1), number(line, i + 2))
+}
+
+pub fn switch(line: Line, i: usize) -> bool
+    requires { ⌜ i < 28 ⌝ }
+{
+    let kinds = line.kinds;
+    kinds[i] == b'1'
+}
+
+pub fn is_absent(line: Line, i: usize) -> bool
+    requires { ⌜ i < 28 ⌝ }
+{
+    let kinds = line.kinds;
+    kinds[i] == b'-'
 }

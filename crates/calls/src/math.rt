@@ -1,6 +1,4 @@
-// The lines that ask for the value of a function.
-use crate::input::is_shaped;
-
+// The functions whose values a line can ask for.
 const SQRT: u64 = 0x01_7371_7274;
 
 const SIN: u64 = 0x0173_696e;
@@ -22,7 +20,7 @@ pub enum Value {
     Of(f64),
 }
 
-fn value_at(name: u64, x: f64) -> Value {
+pub fn value_at(name: u64, x: f64) -> Value {
     match name {
         SQRT => Value::Of(numbers::sqrt(x)),
         SIN => Value::Of(numbers::sin(x)),
@@ -35,21 +33,9 @@ fn value_at(name: u64, x: f64) -> Value {
     }
 }
 
-fn value_at_both(name: u64, y: f64, x: f64) -> Value {
+pub fn value_at_both(name: u64, y: f64, x: f64) -> Value {
     match name {
         ATAN2 => Value::Of(numbers::atan2(y, x)),
         _ => Value::None,
-    }
-}
-
-// The value that a line asks for, if it asks for one.
-pub fn asked(name: u64, count: usize, bits: &[u64; 28], kinds: &[u8; 28]) -> Value {
-    let x = floats::from_bits(bits[0]);
-    if is_shaped(kinds, count, b"n") {
-        value_at(name, x)
-    } else if is_shaped(kinds, count, b"nn") {
-        value_at_both(name, x, floats::from_bits(bits[1]))
-    } else {
-        Value::None
     }
 }

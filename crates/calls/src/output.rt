@@ -1,5 +1,6 @@
 // Text for the standard output, gathered in a buffer. `at` is where its next byte goes.
 use libc::STDOUT_FILENO;
+use limits::Answer;
 
 const DIGITS: [u8; 16] = [
     48,
@@ -76,5 +77,25 @@ pub fn put_word(out: &mut [u8; 65536], at: &mut usize, word: u64) {
         if rest > 255 {
             put(out, at, (rest % 256) as u8);
         }
+    }
+}
+
+pub fn put_flag(out: &mut [u8; 65536], at: &mut usize, flag: bool) {
+    if flag {
+        put_text(out, at, b" 1");
+    } else {
+        put_text(out, at, b" 0");
+    }
+}
+
+pub fn put_answer(out: &mut [u8; 65536], at: &mut usize, answer: Answer) {
+    match answer {
+        Answer::Done => put_text(out, at, b" 0"),
+        Answer::ZeroSample => put_text(out, at, b" 1"),
+        Answer::BadSample => put_text(out, at, b" 2"),
+        Answer::BadInterval => put_text(out, at, b" 3"),
+        Answer::BadSetting => put_text(out, at, b" 4"),
+        Answer::Singular => put_text(out, at, b" 5"),
+        Answer::NotFinite => put_text(out, at, b" 6"),
     }
 }

@@ -1,14 +1,18 @@
 -- A loop that counts lines up to the largest number.
 use Prim.Native.Nat.{_-_, _≤_}
 use borrow.Author.Needs.{needs}
+use native.Mathlib.Omega.{arith}
 use Rattle.calls.proofs.play.Statement.{statement}
 use Rattle.calls.proofs.play.Tie as tie
 
 abbrev Inv-loop : tie.InvT-loop
-Inv-loop buf₀ out₀ to₀ at₀ end₀ bits₀ kinds₀ number₀ buf out to at end bits kinds number = (end ≤ 65536) × (number ≤ 18446744073709551615)
+Inv-loop buf₀ out₀ to₀ at₀ end₀ filter₀ number₀ buf out to at end filter number = (end ≤ 65536) × (number ≤ 18446744073709551615)
 
 abbrev μ-loop : tie.MeasureT-loop
-μ-loop buf₀ out₀ to₀ at₀ end₀ bits₀ kinds₀ number₀ buf out to at end bits kinds number = 18446744073709551615 - number
+μ-loop buf₀ out₀ to₀ at₀ end₀ filter₀ number₀ buf out to at end filter number = 18446744073709551615 - number
+
+fresh-requires : tie.Need-fresh-requires Inv-loop μ-loop
+fresh-requires c κs = search needs
 
 loop-holds : tie.Need-loop-holds Inv-loop μ-loop
 loop-holds c = search needs
@@ -28,14 +32,17 @@ put-bad-requires c κs = search needs
 returns-2 : tie.Need-returns-2 Inv-loop μ-loop
 returns-2 c = search needs
 
+put-requires : tie.Need-put-requires Inv-loop μ-loop
+put-requires c κs = search needs
+
 add-number : tie.Need-add-number Inv-loop μ-loop
-add-number c = search needs
+add-number c = omega (arith, c .before .before .before .before .before .before .before .before .before .before .before .before .before .before .loop-test .taken)
 
 loop-less : tie.Need-loop-less Inv-loop μ-loop
-loop-less c = search needs
+loop-less c = omega (arith, c .before .before .before .before .before .before .before .before .before .before .before .before .before .before .loop-test .taken)
 
 loop-again : tie.Need-loop-again Inv-loop μ-loop
-loop-again c = search needs
+loop-again c = omega (arith, c .before .before .before .before .before .before .before .before .before .before .before .before .before .before .loop-test .taken)
 
 returns-3 : tie.Need-returns-3 Inv-loop μ-loop
 returns-3 c = search needs
@@ -46,12 +53,14 @@ play-spec =
     (tie.spec
     Inv-loop
     μ-loop
+    fresh-requires
     loop-holds
     read-line-requires
     returns
     answer-requires
     put-bad-requires
     returns-2
+    put-requires
     add-number
     loop-less
     loop-again

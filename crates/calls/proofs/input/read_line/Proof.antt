@@ -25,14 +25,14 @@ read-word-requires-2 c κs = search needs
 mul-bits : tie.Need-mul-bits Inv-loop μ-loop
 mul-bits c = search needs
 
-element-write-bits : tie.Need-element-write-bits Inv-loop μ-loop
-element-write-bits c = search needs
+array-write-bits : tie.Need-array-write-bits Inv-loop μ-loop
+array-write-bits c = search needs
 
-element-write-kinds : tie.Need-element-write-kinds Inv-loop μ-loop
-element-write-kinds c = search needs
+array-write-kinds : tie.Need-array-write-kinds Inv-loop μ-loop
+array-write-kinds c = search needs
 
-add-t25 : tie.Need-add-t25 Inv-loop μ-loop
-add-t25 c = search needs
+add-t27 : tie.Need-add-t27 Inv-loop μ-loop
+add-t27 c = search needs
 
 returns-2 : tie.Need-returns-2 Inv-loop μ-loop
 returns-2 c = search needs
@@ -60,9 +60,9 @@ read-line-spec =
     loop-holds
     read-word-requires-2
     mul-bits
-    element-write-bits
-    element-write-kinds
-    add-t25
+    array-write-bits
+    array-write-kinds
+    add-t27
     returns-2
     add-i
     loop-less
