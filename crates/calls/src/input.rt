@@ -221,3 +221,10 @@ pub fn is_absent(line: Line, i: usize) -> bool
     let kinds = line.kinds;
     kinds[i] == b'-'
 }
+
+pub fn is_house(line: Line, i: usize) -> bool
+    requires { ⌜ i < 28 ⌝ }
+{
+    let kinds = line.kinds;
+    kinds[i] == b'h'
+}

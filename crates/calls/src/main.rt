@@ -1,11 +1,13 @@
 // Plays a call script from the standard input and writes its answers to the standard output. A line
 // that is no call writes `bad` and its number, and ends the run.
+mod construction;
 mod input;
 mod math;
 mod output;
 mod request;
 mod state;
 
+use crate::construction::built;
 use crate::input::Line;
 use crate::input::read_line;
 use crate::output::flush;
@@ -14,33 +16,19 @@ use crate::output::put_answer;
 use crate::output::put_decimal;
 use crate::output::put_number;
 use crate::output::put_text;
+use crate::output::put_three_answers;
 use crate::output::put_word;
 use crate::request::Call;
 use crate::request::Request;
-use crate::request::Start;
+use crate::request::Samples;
 use crate::request::asked;
 use crate::state::put_answers;
 use crate::state::put_state;
 use vqf::Updated;
-use vqf::UpdatedAll;
 use vqf::VQF;
 
-// The filter after a line, and whether the line was one of the format's.
-struct Played {
-    is_line: bool,
-    filter: VQF,
-}
-
-fn started(s: Start) -> Updated {
-    let acc_ts = s.acc_ts;
-    let mag_ts = s.mag_ts;
-    let settings = s.settings;
-    VQF::new(s.gyr_ts, acc_ts, mag_ts, settings)
-}
-
-fn called(f: VQF, call: Call) -> Updated {
+fn outcome(f: VQF, call: Call) -> Updated {
     match call {
-        Call::New(s) => started(s),
         Call::Gyr(v) => f.update_gyr(v),
         Call::GyrWithTs(v, ts) => f.update_gyr_with_ts(v, ts),
         Call::Acc(v) => f.update_acc(v),
@@ -57,61 +45,67 @@ fn called(f: VQF, call: Call) -> Updated {
     }
 }
 
-// Answers a line, without its end.
-fn answer(f: VQF, line: Line, out: &mut [u8; 65536], to: &mut usize) -> Played {
-    match asked(line) {
-        Request::None => Played {
-            is_line: false,
-            filter: f,
-        },
+fn called(f: VQF, call: Call, out: &mut [u8; 65536], to: &mut usize) -> VQF {
+    let u = outcome(f, call);
+    let answer = u.answer;
+    put_answer(out, to, answer);
+    u.filter
+}
+
+fn constructed(line: Line, out: &mut [u8; 65536], to: &mut usize) -> VQF {
+    let u = built(line);
+    let answer = u.answer;
+    put_answer(out, to, answer);
+    u.filter
+}
+
+fn updated(f: VQF, s: Samples, out: &mut [u8; 65536], to: &mut usize) -> VQF {
+    let gyr = s.gyr;
+    let acc = s.acc;
+    let mag = s.mag;
+    let u = f.update(gyr, acc, mag);
+    let gyr_answer = u.gyr;
+    let acc_answer = u.acc;
+    let mag_answer = u.mag;
+    put_three_answers(out, to, gyr_answer, acc_answer, mag_answer);
+    u.filter
+}
+
+// Writes what a line is answered behind its first word, and hands back the next filter.
+fn answered(f: VQF, request: Request, line: Line, out: &mut [u8; 65536], to: &mut usize) -> VQF {
+    match request {
+        Request::None => f,
         Request::Value(x) => {
-            put_word(out, to, line.name);
             put_number(out, to, x);
-            Played {
-                is_line: true,
-                filter: f,
-            }
+            f
         }
         Request::State => {
             put_state(out, to, f);
-            Played {
-                is_line: true,
-                filter: f,
-            }
+            f
         }
         Request::Get => {
             put_answers(out, to, f);
-            Played {
-                is_line: true,
-                filter: f,
-            }
+            f
         }
-        Request::Update(gyr, acc, mag) => {
-            let u = f.update(gyr, acc, mag);
-            put_word(out, to, line.name);
-            let gyr_answer = u.gyr;
-            let acc_answer = u.acc;
-            let mag_answer = u.mag;
-            put_answer(out, to, gyr_answer);
-            put_answer(out, to, acc_answer);
-            put_answer(out, to, mag_answer);
-            let filter = u.filter;
-            Played {
-                is_line: true,
-                filter,
-            }
-        }
-        Request::Call(call) => {
-            let u = called(f, call);
-            let answer = u.answer;
-            put_word(out, to, line.name);
-            put_answer(out, to, answer);
-            let filter = u.filter;
-            Played {
-                is_line: true,
-                filter,
-            }
-        }
+        Request::New => constructed(line, out, to),
+        Request::Update(samples) => updated(f, samples, out, to),
+        Request::Call(call) => called(f, call, out, to),
+    }
+}
+
+// The first word of an answer: that of the line, but for the state and the answers.
+fn put_head(request: Request, name: u64, out: &mut [u8; 65536], to: &mut usize) {
+    match request {
+        Request::State => put(out, to, b'='),
+        Request::Get => put(out, to, b'?'),
+        _ => put_word(out, to, name),
+    }
+}
+
+fn is_none(request: Request) -> bool {
+    match request {
+        Request::None => true,
+        _ => false,
     }
 }
 
@@ -132,13 +126,14 @@ fn play(buf: &mut [u8; 65536], out: &mut [u8; 65536], to: &mut usize) {
         if line.ended {
             return;
         }
-        let played = answer(filter, line, out, to);
-        if !played.is_line {
+        let request = asked(line);
+        if is_none(request) {
             put_bad(out, to, number);
             return;
         }
+        put_head(request, line.name, out, to);
+        filter = answered(filter, request, line, out, to);
         put(out, to, b'\n');
-        filter = played.filter;
     }
 }
 

@@ -99,3 +99,15 @@ pub fn put_answer(out: &mut [u8; 65536], at: &mut usize, answer: Answer) {
         Answer::NotFinite => put_text(out, at, b" 6"),
     }
 }
+
+pub fn put_three_answers(
+    out: &mut [u8; 65536],
+    at: &mut usize,
+    gyr: Answer,
+    acc: Answer,
+    mag: Answer,
+) {
+    put_answer(out, at, gyr);
+    put_answer(out, at, acc);
+    put_answer(out, at, mag);
+}

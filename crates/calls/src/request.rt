@@ -1,7 +1,5 @@
 // What a line asks for.
-ghost use Prim.Native.Nat.{_<_};
 use crate::input::Line;
-use crate::input::is_absent;
 use crate::input::is_shaped;
 use crate::input::number;
 use crate::input::switch;
@@ -10,15 +8,8 @@ use crate::math::Value;
 use crate::math::value_at;
 use crate::math::value_at_both;
 use algebra::Vector;
-use inertial::InertialParams;
 use inertial::setters::Sigma;
-use inertial::types::BiasParams;
-use inertial::types::RestParams;
-use magnetic::MagneticParams;
-use vqf::Interval;
-use vqf::Params;
 use vqf::Sample;
-use vqf::Settings;
 
 const STATE: u64 = 0x0173_7461_7465;
 
@@ -54,17 +45,8 @@ const MAGREF: u64 = 0x01_6d61_6772_6566;
 
 const RESET: u64 = 0x0172_6573_6574;
 
-// The arguments of the constructor.
-pub struct Start {
-    pub gyr_ts: f64,
-    pub acc_ts: Interval,
-    pub mag_ts: Interval,
-    pub settings: Settings,
-}
-
-// A call with one answer.
+// A call with one answer, on a filter that is there.
 pub enum Call {
-    New(Start),
     Gyr(Vector),
     GyrWithTs(Vector, f64),
     Acc(Vector),
@@ -80,109 +62,28 @@ pub enum Call {
     Reset,
 }
 
+pub struct Samples {
+    pub gyr: Vector,
+    pub acc: Vector,
+    pub mag: Sample,
+}
+
 pub enum Request {
     // A line that is none of the format's.
     None,
     Value(f64),
     State,
     Get,
-    Update(Vector, Vector, Sample),
+    // The constructor, whose arguments stay in the line.
+    New,
+    Update(Samples),
     Call(Call),
 }
 
-fn interval(line: Line, i: usize) -> Interval
-    requires { ⌜ i < 28 ⌝ }
-{
-    if is_absent(line, i) {
-        Interval::Absent
-    } else {
-        Interval::Given(number(line, i))
-    }
-}
-
-fn rest_params(line: Line) -> RestParams {
-    RestParams {
-        rest_bias_est_enabled: switch(line, 6),
-        mag_dist_rejection_enabled: switch(line, 7),
-        bias_clip: number(line, 10),
-        rest_min_t: number(line, 14),
-        rest_filter_tau: number(line, 15),
-        rest_th_gyr: number(line, 16),
-        rest_th_acc: number(line, 17),
-    }
-}
-
-fn bias_params(line: Line) -> BiasParams {
-    BiasParams {
-        motion_bias_est_enabled: switch(line, 5),
-        bias_sigma_init: number(line, 8),
-        bias_forgetting_time: number(line, 9),
-        bias_sigma_motion: number(line, 11),
-        bias_vertical_forgetting_factor: number(line, 12),
-        bias_sigma_rest: number(line, 13),
-    }
-}
-
-fn magnetic_params(line: Line) -> MagneticParams {
-    MagneticParams {
-        tau_mag: number(line, 4),
-        mag_current_tau: number(line, 18),
-        mag_ref_tau: number(line, 19),
-        mag_norm_th: number(line, 20),
-        mag_dip_th: number(line, 21),
-        mag_new_time: number(line, 22),
-        mag_new_first_time: number(line, 23),
-        mag_new_min_gyr: number(line, 24),
-        mag_min_undisturbed_time: number(line, 25),
-        mag_max_rejection_time: number(line, 26),
-        mag_rejection_factor: number(line, 27),
-    }
-}
-
-// The settings stand behind the three intervals, in the order of the source.
-fn settings(line: Line) -> Settings {
-    let rest = rest_params(line);
-    let bias = bias_params(line);
-    let inertial = InertialParams {
-        tau_acc: number(line, 3),
-        rest,
-        bias,
-    };
-    let magnetic = magnetic_params(line);
-    Settings::Given(Params { inertial, magnetic })
-}
-
-fn starting(line: Line, settings: Settings) -> Request {
-    let acc_ts = interval(line, 1);
-    let mag_ts = interval(line, 2);
-    Request::Call(Call::New(Start {
-        gyr_ts: number(line, 0),
-        acc_ts,
-        mag_ts,
-        settings,
-    }))
-}
-
-fn construction(line: Line) -> Request {
-    if is_shaped(line, b"nooh") {
-        starting(line, Settings::Absent)
-    } else if is_shaped(line, b"noonnsssnnnnnnnnnnnnnnnnnnnn") {
-        starting(line, settings(line))
-    } else {
-        Request::None
-    }
-}
-
-fn update(line: Line) -> Request {
+fn update(line: Line, mag: Sample) -> Request {
     let gyr = vector(line, 0);
     let acc = vector(line, 3);
-    if is_shaped(line, b"nnnnnn-") {
-        Request::Update(gyr, acc, Sample::Absent)
-    } else if is_shaped(line, b"nnnnnnnnn") {
-        Request::Update(gyr, acc, Sample::Given(vector(line, 6)))
-    } else {
-        Request::None
-    }
+    Request::Update(Samples { gyr, acc, mag })
 }
 
 fn of_nothing(name: u64) -> Request {
@@ -250,6 +151,28 @@ fn of_vector_and_dash(name: u64, v: Vector) -> Request {
     }
 }
 
+fn is_construction(line: Line) -> bool {
+    is_shaped(line, b"nooh") | is_shaped(line, b"noonnsssnnnnnnnnnnnnnnnnnnnn")
+}
+
+fn of_construction(line: Line) -> Request {
+    if is_construction(line) {
+        Request::New
+    } else {
+        Request::None
+    }
+}
+
+fn of_update(line: Line) -> Request {
+    if is_shaped(line, b"nnnnnn-") {
+        return update(line, Sample::Absent);
+    }
+    if is_shaped(line, b"nnnnnnnnn") {
+        return update(line, Sample::Given(vector(line, 6)));
+    }
+    Request::None
+}
+
 // The lines that their arguments tell apart.
 fn of_shape(line: Line) -> Request {
     let name = line.name;
@@ -280,8 +203,8 @@ fn of_shape(line: Line) -> Request {
 pub fn asked(line: Line) -> Request {
     let name = line.name;
     match name {
-        NEW => construction(line),
-        UPD => update(line),
+        NEW => of_construction(line),
+        UPD => of_update(line),
         _ => of_shape(line),
     }
 }

@@ -1,5 +1,4 @@
 // The state line, with every stored number, and the answers' line.
-use crate::output::put;
 use crate::output::put_flag;
 use crate::output::put_number;
 use crate::output::put_text;
@@ -10,6 +9,7 @@ use filters::Channel;
 use filters::Coeffs;
 use filters::Phase;
 use inertial::types::Bias;
+use inertial::types::BiasCoefficients;
 use inertial::types::BiasParams;
 use inertial::types::Inclination;
 use inertial::types::Rest;
@@ -135,25 +135,29 @@ fn put_smoothing(out: &mut [u8; 65536], at: &mut usize, s: Smoothing) {
     }
 }
 
+fn put_bias_coefficients(out: &mut [u8; 65536], at: &mut usize, c: BiasCoefficients) {
+    put_number(out, at, c.bias_p0);
+    put_number(out, at, c.bias_v);
+    put_number(out, at, c.bias_motion_w);
+    put_number(out, at, c.bias_vertical_w);
+    put_number(out, at, c.bias_rest_w);
+}
+
 fn put_coefficients(out: &mut [u8; 65536], at: &mut usize, c: Coefficients) {
-    let i = c.inertial;
-    let m = c.magnetic;
-    put_number(out, at, i.gyr_ts);
-    put_number(out, at, i.acc_ts);
-    put_number(out, at, m.mag_ts);
-    let acc_lp = i.acc_lp;
+    put_number(out, at, c.inertial.gyr_ts);
+    put_number(out, at, c.inertial.acc_ts);
+    put_number(out, at, c.magnetic.mag_ts);
+    let acc_lp = c.inertial.acc_lp;
     put_coeffs(out, at, acc_lp);
-    put_number(out, at, m.k_mag);
-    put_number(out, at, i.bias.bias_p0);
-    put_number(out, at, i.bias.bias_v);
-    put_number(out, at, i.bias.bias_motion_w);
-    put_number(out, at, i.bias.bias_vertical_w);
-    put_number(out, at, i.bias.bias_rest_w);
-    let rest_gyr_lp = i.rest_gyr_lp;
+    put_number(out, at, c.magnetic.k_mag);
+    let bias = c.inertial.bias;
+    put_bias_coefficients(out, at, bias);
+    let rest_gyr_lp = c.inertial.rest_gyr_lp;
     put_coeffs(out, at, rest_gyr_lp);
-    let rest_acc_lp = i.rest_acc_lp;
+    let rest_acc_lp = c.inertial.rest_acc_lp;
     put_coeffs(out, at, rest_acc_lp);
-    put_number(out, at, m.k_mag_ref);
+    put_number(out, at, c.magnetic.k_mag_ref);
+    let m = c.magnetic;
     let mag_norm_dip_lp = m.mag_norm_dip_lp;
     put_smoothing(out, at, mag_norm_dip_lp);
 }
@@ -164,8 +168,8 @@ fn put_attitude(
     at: &mut usize,
     i: Inclination,
     h: Heading,
-    rest_detected: bool,
-    mag_dist_detected: bool,
+    is_resting: bool,
+    is_disturbed: bool,
 ) {
     let gyr_quat = i.gyr_quat;
     let acc_quat = i.acc_quat;
@@ -174,8 +178,8 @@ fn put_attitude(
     put_quaternion(out, at, gyr_quat);
     put_quaternion(out, at, acc_quat);
     put_number(out, at, h.delta);
-    put_flag(out, at, rest_detected);
-    put_flag(out, at, mag_dist_detected);
+    put_flag(out, at, is_resting);
+    put_flag(out, at, is_disturbed);
     put_vector(out, at, last_acc_lp);
     put_channels3(out, at, acc_lp_state);
     put_number(out, at, i.last_acc_corr_angular_rate);
@@ -227,32 +231,25 @@ fn put_field(out: &mut [u8; 65536], at: &mut usize, f: Field) {
 
 fn put_stored(out: &mut [u8; 65536], at: &mut usize, s: State) {
     let inclination = s.inertial.inclination;
-    let bias = s.inertial.bias;
-    let rest = s.inertial.rest;
     let heading = s.magnetic.heading;
-    let field = s.magnetic.field;
-    put_attitude(
-        out,
-        at,
-        inclination,
-        heading,
-        rest.rest_detected,
-        field.mag_dist_detected,
-    );
+    let is_resting = s.inertial.rest.rest_detected;
+    let is_disturbed = s.magnetic.field.mag_dist_detected;
+    put_attitude(out, at, inclination, heading, is_resting, is_disturbed);
+    let bias = s.inertial.bias;
     put_bias(out, at, bias);
+    let rest = s.inertial.rest;
     put_rest(out, at, rest);
+    let field = s.magnetic.field;
     put_field(out, at, field);
 }
 
 pub fn put_state(out: &mut [u8; 65536], at: &mut usize, f: VQF) {
-    put(out, at, b'=');
     put_params(out, at, f.params());
     put_coefficients(out, at, f.coeffs());
     put_stored(out, at, f.state());
 }
 
 pub fn put_answers(out: &mut [u8; 65536], at: &mut usize, f: VQF) {
-    put(out, at, b'?');
     put_quaternion(out, at, f.quat_3d());
     put_quaternion(out, at, f.quat_6d());
     put_quaternion(out, at, f.quat_9d());
