@@ -5,3 +5,4 @@ pub mod Setters
 pub mod Asked
 pub mod Calls
 pub mod Refused
+pub mod Apart
