@@ -128,7 +128,7 @@ module _ (w : Format) where
 
   gyr-part : (f : VQF) (v : Vector) → Kept VQF f (updates.update-gyr w f v)
   unfolding updates.update-gyr
-  gyr-part f v = whole-inertial f _ (gyr-kept (f .inertial) v (f .inertial .coeffs .«gyr_ts»))
+  gyr-part f v = whole-inertial f _ (gyr-kept (f .inertial) v _)
 
   acc-part : (f : VQF) (v : Vector) → Kept VQF f (updates.update-acc w f v)
   unfolding updates.update-acc
@@ -148,7 +148,7 @@ module _ (w : Format) where
   unchanged f (update-gyr v) h = gyr-part f v .by (h .0)
   unchanged f (update-acc v) h = acc-part f v .by (h .0)
   unchanged f (update-mag v) h = mag-part f v .by (h .0)
-  unchanged f (update-gyr-with-ts v ts) h = whole-inertial f _ (gyr-kept (f .inertial) v ts) .by (h .0)
+  unchanged f (update-gyr-with-ts v ts) h = whole-inertial f _ (gyr-kept (f .inertial) v _) .by (h .0)
   unchanged f (update g a m) h =
       let after-gyr : VQF = updates.update-gyr w f g .left in
       let after-acc : VQF = updates.update-acc w after-gyr a .left in

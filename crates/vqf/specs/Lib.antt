@@ -6,3 +6,4 @@ pub mod Asked
 pub mod Calls
 pub mod Refused
 pub mod Apart
+pub mod Determined
