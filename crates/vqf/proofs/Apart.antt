@@ -51,7 +51,7 @@ module _ (w : Format) (i : Inertial) (m n : Magnetic) where
   one (update-acc v) = record { half = refl; numbers = refl }
   one (update-mag v) = record { half = refl; numbers = refl }
   one (update-gyr-with-ts v ts) = record { half = refl; numbers = refl }
-  one (update g a s) = record { half = sample-left _ s ∙ sym (sample-left _ Absent); numbers = refl }
+  one (update gyr acc s) = record { half = sample-left _ s ∙ sym (sample-left _ Absent); numbers = refl }
   one (set-tau-acc tau) = record { half = refl; numbers = refl }
   one (set-tau-mag tau) = record { half = refl; numbers = refl }
   one (set-motion-bias-est-enabled on) = record { half = refl; numbers = refl }
@@ -59,7 +59,7 @@ module _ (w : Format) (i : Inertial) (m n : Magnetic) where
   one (set-mag-dist-rejection-enabled on) =
       let s = switched (Bool·beq (i .params .rest .«mag_dist_rejection_enabled») on) _ _ _ in
       record { half = s .0; numbers = λ k. s .1 k ∷ [] }
-  one (set-rest-detection-thresholds g a) = record { half = refl; numbers = refl }
+  one (set-rest-detection-thresholds th-gyr th-acc) = record { half = refl; numbers = refl }
   one (set-mag-ref norm dip) = record { half = refl; numbers = refl }
   one (set-bias-estimate v sigma) = record { half = refl; numbers = refl }
   one reset-state = record { half = refl; numbers = refl }
