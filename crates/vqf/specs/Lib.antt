@@ -4,3 +4,6 @@ pub mod Update
 pub mod Setters
 pub mod Asked
 pub mod Calls
+pub mod Refused
+pub mod Apart
+pub mod Determined
