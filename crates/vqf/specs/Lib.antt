@@ -4,3 +4,4 @@ pub mod Update
 pub mod Setters
 pub mod Asked
 pub mod Calls
+pub mod RestHistory
