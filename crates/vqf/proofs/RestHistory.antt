@@ -110,7 +110,7 @@ module _ (w : Format) where
   Kept f t = clock-of (t .left) ≡ clock-of f
 
   abbrev Moved : Inertial → Event → Told Inertial → Type 0
-  Moved f e t = clock-of (t .left) ≡ moved-by (clock-of f) (if-accepted w (t .number) e)
+  Moved f e t = clock-of (t .left) ≡ moved-by (clock-of f) (if-accepted (t .number) e)
 
   -- the gyro's test, as the definition of the step has it
   abbrev watched : RestParams → Bool

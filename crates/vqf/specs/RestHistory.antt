@@ -1,13 +1,15 @@
 -- Rest, told from history: what each call does to rest, and the flag told from those events alone, over the format w.
-use mathlib.Core.Path.{_≡_}
+use mathlib.Core.Path.{_≡_, refl}
 use mathlib.Core.Bool.{Bool, true, false, not, cond, _&&_, _||_, Bool·beq}
 use mathlib.Core.List.{List, [], _∷_, _++_}
 use Prim.Native.Nat.{ℕ}
-use lib.Ieee.{Float, Format, lt, le}
-use Rattle.floats.specs.Notation.{Rounded, rounded, zero}
+use lib.Ieee.{Float, Format, binary64, ofBits, add, neg, eq, lt, le}
+use Rattle.floats.specs.Notation.{Rounded, rounded, zero, half}
 use Rattle.floats.specs.Definitions.{magnitude}
+use Rattle.algebra.specs.Vectors.{vector}
 use Rattle.algebra.specs.declared.vector.Vector.{Vector}
 use Rattle.filters.specs.Banks.{filter-vec3}
+use Rattle.limits.specs.Limits.{all-within, zero-sample}
 use Rattle.inertial.specs.Gyr.{square, radians, squared-deviation}
 use Rattle.inertial.specs.declared.types.Inertial.{Inertial}
 use Rattle.vqf.specs.Build.{new, settings-or-house}
@@ -23,6 +25,11 @@ pub data Event : Type 0 where
   breaks : Event
   adds : Float → Event
   neither : Event
+
+-- "Answers 1 to 6 neither add nor break."
+abbrev pub if-accepted : ℕ → Event → Event
+if-accepted ℕ.zero e = e
+if-accepted (ℕ.suc n) e = neither
 
 -- ---- The flag, from the events alone.
 -- The times added since the last break, or since construction, after those of `ts`.
@@ -73,11 +80,6 @@ module _ (w : Format) where
       let lp = filter-vec3 w acc (p .«rest_filter_tau») (f .coeffs .«acc_ts») (f .coeffs .«rest_acc_lp») (f .state .rest .«rest_acc_lp_state») .y in
       not (le (square w (p .«rest_th_acc»)) (squared-deviation w acc lp))
 
-  -- "Answers 1 to 6 neither add nor break."
-  abbrev pub if-accepted : ℕ → Event → Event
-  if-accepted ℕ.zero e = e
-  if-accepted (ℕ.suc n) e = neither
-
   -- Rest breaks at "an accepted gyro sample that is not quiet while rest estimation or disturbance rejection is on".
   unfoldable pub gyr-event : Inertial → Vector → ℕ → Event
   gyr-event f gyr number =
@@ -123,3 +125,46 @@ module _ (w : Format) where
       → new w gyr-ts acc-given mag-given given .number ≡ 0
       → let f = new w gyr-ts acc-given mag-given given .left in
       rest-detected (run w f calls) ≡ told-rest (settings-or-house w given .inertial .rest .«rest_min_t») (events f calls)
+
+-- ---- What it tells, by example: half seconds and `rest_min_t` 1.5.
+abbrev half-second : Event
+half-second = adds (half binary64)
+
+abbrev least : Float
+least = ofBits binary64 0x3ff8_0000_0000_0000
+
+third-reaches : told-rest binary64 least (half-second ∷ half-second ∷ half-second ∷ []) ≡ true
+unfolding add le ofBits
+third-reaches = refl
+
+second-does-not : told-rest binary64 least (half-second ∷ half-second ∷ []) ≡ false
+unfolding add le ofBits
+second-does-not = refl
+
+refused-between : told-rest binary64 least (half-second ∷ neither ∷ half-second ∷ neither ∷ half-second ∷ []) ≡ true
+unfolding add le ofBits
+refused-between = refl
+
+broken-between : told-rest binary64 least (half-second ∷ half-second ∷ breaks ∷ half-second ∷ []) ≡ false
+unfolding add le ofBits
+broken-between = refl
+
+broken-after : told-rest binary64 least (half-second ∷ half-second ∷ half-second ∷ breaks ∷ []) ≡ false
+broken-after = refl
+
+-- with `rest_min_t` 0
+none-yet : told-rest binary64 (zero binary64) [] ≡ false
+none-yet = refl
+
+first-reaches : told-rest binary64 (zero binary64) (half-second ∷ []) ≡ true
+unfolding add le ofBits
+first-reaches = refl
+
+-- a call that ends in 5 neither adds nor breaks, nor does an all zero sample
+singular-neither : (w : Format) (f : Inertial) (acc : Vector) → acc-event w f acc 5 ≡ neither
+unfolding acc-event
+singular-neither w f acc = refl
+
+zero-neither : (f : VQF) → call-events binary64 f (update-acc (vector (zero binary64) (neg (zero binary64)) (zero binary64))) ≡ neither ∷ []
+unfolding call-events acc-event updates.update-acc Rattle.inertial.specs.Acc.update-acc all-within zero-sample ofBits neg le eq
+zero-neither f = refl
