@@ -1,9 +1,9 @@
 -- The rest flag is the one told from history. The filter keeps a clock: the sum since the last break, and whether a sum has reached `rest_min_t`.
--- Each call moves that clock as its events say (`moved`), whatever else it does; and a clock so moved shows what the events tell (`told`).
+-- Each call moves that clock as its events say (`moved`), whatever else it does; and a clock that events have moved shows what they tell (`told-by`).
+-- Both start from 0 and false at construction (`started`).
 use mathlib.Core.Path.{_≡_, refl, sym, ap, _∙_}
 use mathlib.Core.Bool.{Bool, true, false, not, cond, _&&_, _||_, Bool·beq}
 use mathlib.Core.List.{List, [], _∷_, _++_}
-use Prim.Native.Nat.{ℕ, suc}
 use native.Mathlib.Omega.{arith}
 use lib.Ieee.{Float, Format, eq, lt, le}
 use Rattle.floats.specs.Notation.{Rounded, rounded, zero}
@@ -37,6 +37,7 @@ use Rattle.vqf.specs.declared.types.Params.{Params}
 use Rattle.vqf.specs.declared.types.Interval.{Interval}
 use Rattle.vqf.specs.declared.types.Settings.{Settings}
 
+-- `rest_min_t` stands in it too: an event leaves it as it is, so `moved` also says that no call changes it
 record Clock : Type 0 where
   min-t : Float
   t : Float
@@ -48,6 +49,7 @@ clock p r = record { min-t = p .«rest_min_t»; t = r .«rest_t»; reached = r .
 abbrev clock-of : Inertial → Clock
 clock-of f = clock (f .params .rest) (f .state .rest)
 
+-- a law of both results of a test is a law of the test's result
 both-ways : {A : Type 0} (P : A → Type 0) (b : Bool) {x y : A} → P x → P y → P (cond b x y)
 both-ways P true p q = p
 both-ways P false p q = q

@@ -63,7 +63,7 @@ module _ (w : Format) where
 
   -- ---- The events, from the run.
   -- "Quiet is 000's test: squared deviation below the squared threshold and, for the gyro, no filtered component beyond the clip."
-  -- The sample is filtered from the state before the call, with the sensor's own interval.
+  -- 000 asks the opposite, `>=` the squared threshold and `>` the clip. The sample is filtered from the state before the call, at the sensor's own interval.
   unfoldable pub gyr-quiet : Inertial → Vector → Bool
   gyr-quiet f gyr =
       let p = f .params .rest in
