@@ -7,3 +7,4 @@ pub mod Calls
 pub mod Refused
 pub mod Apart
 pub mod Determined
+pub mod RestHistory
