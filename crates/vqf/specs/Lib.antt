@@ -1,6 +1,10 @@
 pub mod Whole
 pub mod Build
+pub mod Decimals
 pub mod Update
 pub mod Setters
 pub mod Asked
 pub mod Calls
+pub mod AllFinite
+pub mod Construction
+pub mod Worked
