@@ -1,11 +1,10 @@
 -- Every number of a magnetic half that is built from settings that are taken is finite, rounding included.
-use mathlib.Core.Path.{_≡_, refl}
 use mathlib.Core.Logic.{_⊎_, inl, inr}
 use mathlib.Core.Bool.{Bool, true, false, cond}
 use lib.Dec.{T}
 use lib.Ieee.{Float, binary64, ofBits, neg, lt, le}
 use lib.Ieee.Scale.{finite}
-use Rattle.floats.specs.Tests.{both, either}
+use Rattle.floats.specs.Tests.{both, either, is-true}
 use Rattle.floats.specs.Order.{lt→nle, Within, within-finite}
 use Rattle.numbers.specs.Constants.{𝟎, 𝟏}
 use Rattle.filters.specs.Bounds.{LEAST, MOST, Interval, Constant, GainConstant, filter-coeffs-finite, gain-finite, interval-finite}
@@ -43,10 +42,6 @@ smoothing-finite tau ts v w = go (lt 𝟎 tau) w (lt→nle 𝟎 tau)
     go true (inl u) h = absurd (h tt (u .1))
     go true (inr u) h = filter-coeffs-finite tau ts v u
     go false u h = tt
-
-is-true : (b : Bool) → T b → b ≡ true
-is-true true t = refl
-is-true false t = absurd t
 
 state-finite : (p : MagneticParams) → T (finite (p .«mag_max_rejection_time»)) → T (finite-state (fresh-state binary64 p))
 unfolding finite-state finite-heading finite-field finite-channels finite-channel fresh-state restarted-field neg ofBits

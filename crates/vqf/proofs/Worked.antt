@@ -1,16 +1,16 @@
 -- The worked values, computed from the definitions.
 use mathlib.Core.Path.{_≡_, refl}
-use mathlib.Core.Bool.{false}
 use lib.Ieee.{binary64, add, sub, mul, div, neg, lt, eq, le, ofInt, round, ofBits, toBits}
-use Rattle.floats.specs.Definitions.{magnitude, clamp, larger}
+use Rattle.floats.specs.Decimals.{decimal}
+use Rattle.floats.specs.Definitions.{magnitude, clamp}
 use Rattle.numbers.specs.Root.{root}
-use Rattle.numbers.specs.Sines.{ksin, kcos, reduce, sine-of, cosine-of, sine, cosine, sin, cos, tan}
+use Rattle.numbers.specs.Sines.{ksin, kcos, reduce, sine-of, cosine-of, sine, cosine, tan}
 use Rattle.algebra.specs.Values as algebra
 use Rattle.algebra.specs.Vectors as vectors
 use Rattle.algebra.specs.Quaternions as quaternions
 use Rattle.filters.specs.Values as filters
 use Rattle.filters.specs.Coefficients.{angle, coeffs, filter-coeffs}
-use Rattle.filters.specs.Channels.{average, filter-channel, filter-initial-state, filter-adapt-state-for-coeff-change, finite-channel}
+use Rattle.filters.specs.Channels.{average, filter-channel, filter-adapt-state-for-coeff-change, finite-channel}
 use Rattle.filters.specs.Banks.{outputs, channels, filter-vec3, adapted, adapt2, adapt3, adapt9, first-numbers, finite-channels}
 use Rattle.limits.specs.Limits.{all-within, zero-sample}
 use Rattle.inertial.specs.Gyr as gyr
@@ -22,11 +22,11 @@ use Rattle.vqf.specs.Update.{update-gyr, update-gyr-with-ts, update-acc}
 use Rattle.vqf.specs.Setters.{set-tau-acc}
 use Rattle.vqf.specs.Worked.{Worked}
 
-tau-below : set-tau-acc binary64 (fresh binary64) (round binary64 false 9 1000) .number ≡ 4
+tau-below : set-tau-acc binary64 (fresh binary64) (decimal binary64 9 1000) .number ≡ 4
 unfolding set-tau-acc setters.set-tau-acc fresh built house inertial.new inertial.setup inertial.house le round ofBits
 tau-below = refl
 
-tau-taken : set-tau-acc binary64 (fresh binary64) (round binary64 false 1 100) .number ≡ 0
+tau-taken : set-tau-acc binary64 (fresh binary64) (decimal binary64 1 100) .number ≡ 0
 unfolding set-tau-acc setters.set-tau-acc setters.retuned setters.finite-coeffs setters.adapted-inclination setters.adapted-bias adapted adapt2 adapt3 adapt9 first-numbers finite-channels finite-channel filter-adapt-state-for-coeff-change filter-coeffs angle coeffs tan ksin kcos clamp fresh built house inertial.new inertial.setup inertial.house inertial.fresh-state inertial.fresh-rest add sub mul div neg lt eq le round ofBits
 tau-taken = refl
 

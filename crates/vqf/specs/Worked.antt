@@ -1,9 +1,9 @@
 -- The worked values of document 01 that are marked P, each below its line. Numbers are binary64; the calls are made on the fresh house filter.
 use mathlib.Core.Path.{_≡_}
-use mathlib.Core.Bool.{false}
 use mathlib.Core.List.{[], _∷_}
-use Prim.Native.Nat.{ℕ, _+_, _^_}
-use lib.Ieee.{Float, nan, binary64, neg, round, ofBits, toBits}
+use Prim.Native.Nat.{_+_, _^_}
+use lib.Ieee.{Float, nan, binary64, neg, ofBits, toBits}
+use Rattle.floats.specs.Decimals.{decimal}
 use Rattle.numbers.specs.Root.{root}
 use Rattle.algebra.specs.Values.{whole, part}
 use Rattle.algebra.specs.Vectors.{vector}
@@ -21,10 +21,6 @@ use Rattle.vqf.specs.declared.types.VQF.{VQF}
 
 abbrev house : VQF
 house = build.fresh binary64
-
--- the value nearest to m / n
-abbrev decimal : ℕ → ℕ → Float
-decimal m n = round binary64 false m n
 
 abbrev diagonal : Float → Float → Float → Matrix
 diagonal a b c = rows (vector a (whole 0) (whole 0)) (vector (whole 0) b (whole 0)) (vector (whole 0) (whole 0) c)
@@ -60,8 +56,8 @@ pub record Worked : Type 0 where
   -- "accelerometer [0,-0,0] gives 1"
   pub no-sample : update-acc binary64 house (vector (whole 0) (neg (whole 0)) (whole 0)) .number ≡ 1
   -- "`tau_acc` 0.01 at the house interval is taken; 0.009 gives 4"
-  pub tau-taken : set-tau-acc binary64 house (decimal 1 100) .number ≡ 0
-  pub tau-below : set-tau-acc binary64 house (decimal 9 1000) .number ≡ 4
+  pub tau-taken : set-tau-acc binary64 house (decimal binary64 1 100) .number ≡ 0
+  pub tau-below : set-tau-acc binary64 house (decimal binary64 9 1000) .number ≡ 4
   -- "square root of 2.25 is 1.5; of -0 is -0"
-  pub root-taken : root binary64 (decimal 9 4) ≡ decimal 3 2
+  pub root-taken : root binary64 (decimal binary64 9 4) ≡ decimal binary64 3 2
   pub root-of-zero : root binary64 (neg (whole 0)) ≡ neg (whole 0)
