@@ -4,6 +4,7 @@
 --     filter-coeffs-finite    each coefficient is finite
 --     filter-coeffs-outside   where the angle is outside 0 and 0.75, which no such tau and ts bring about, each coefficient is a NaN
 --     gain-within             the gain lies within 0 and 1
+--     gain-finite             the gain is finite
 use mathlib.Core.Path.{_≡_, refl, subst, ap, _∙_}
 use mathlib.Core.Logic.{_⊎_, inl, inr}
 use mathlib.Core.Bool.{Bool, true, false, not, _||_, cond}
@@ -12,6 +13,7 @@ use lib.Ieee.{Float, nan, inf, fin, binary64, ofBits, add, sub, mul, div, neg, l
 use lib.Ieee.Scale.{finite}
 use lib.Ieee.Positive.{num, den}
 use Rattle.floats.specs.Notation.{Rounded, rounded}
+use Rattle.floats.specs.Tests.{both}
 use Rattle.floats.specs.Order.{le-tr, Within, within-finite}
 use Rattle.floats.specs.Products.{mul-mono, mul-sym}
 use Rattle.floats.specs.Quotients.{div-anti, positive-up}
@@ -21,7 +23,7 @@ use Rattle.numbers.specs.Constants.{𝟎, 𝟏, PI, between, TAN-LIMIT, EXP-LIM
 use Rattle.numbers.specs.Sines.{tan}
 use Rattle.numbers.specs.Exponential.{exp}
 use Rattle.numbers.specs.Ranges.{tan-within, tan-domain, exp-within}
-use Rattle.filters.specs.Coefficients.{𝟐, SQRT-2, angle, coeffs, filter-coeffs, gain-from-tau}
+use Rattle.filters.specs.Coefficients.{𝟐, SQRT-2, angle, coeffs, filter-coeffs, finite-coeffs, gain-from-tau}
 use Rattle.filters.specs.declared.coeffs.Coeffs.{Coeffs}
 open Rounded (rounded binary64) using (_⊕_, _⊖_, _⊗_, _⊘_)
 
@@ -131,20 +133,17 @@ pub filter-coeffs-within : (tau ts : Float) → Interval ts → Constant tau ts 
 unfolding filter-coeffs
 filter-coeffs-within tau ts v w = coeffs-within (tan (angle tau ts)) (tan-within (angle tau ts) (angle-within tau ts v w))
 
-abbrev pub Finite : Coeffs → Type 0
-Finite k = T (finite (k .b0)) × T (finite (k .b1)) × T (finite (k .b2)) × T (finite (k .a1)) × T (finite (k .a2))
-
-pub filter-coeffs-finite : (tau ts : Float) → Interval ts → Constant tau ts → Finite (filter-coeffs tau ts)
-unfolding neg ofBits
+pub filter-coeffs-finite : (tau ts : Float) → Interval ts → Constant tau ts → T (finite-coeffs (filter-coeffs tau ts))
+unfolding finite-coeffs neg ofBits
 filter-coeffs-finite tau ts v w =
     let k = filter-coeffs tau ts in
-    let h = filter-coeffs-within tau ts v w in (
-      within-finite (k .b0) 𝟎 𝟏 tt tt (h .0),
-      within-finite (k .b1) 𝟎 𝟐 tt tt (h .1),
-      within-finite (k .b2) 𝟎 𝟏 tt tt (h .2),
-      within-finite (k .a1) (neg 𝟐) 𝟎 tt tt (h .3),
-      within-finite (k .a2) (neg 𝟐) 𝟐 tt tt (h .4),
-    )
+    let h = filter-coeffs-within tau ts v w in
+    let b0 = within-finite (k .b0) 𝟎 𝟏 tt tt (h .0) in
+    let b1 = within-finite (k .b1) 𝟎 𝟐 tt tt (h .1) in
+    let b2 = within-finite (k .b2) 𝟎 𝟏 tt tt (h .2) in
+    let a1 = within-finite (k .a1) (neg 𝟐) 𝟎 tt tt (h .3) in
+    let a2 = within-finite (k .a2) (neg 𝟐) 𝟐 tt tt (h .4) in
+    simp both ((((b0, b1), b2), a1), a2)
 
 nan-only : (x : Float) → isNan x ≡ true → x ≡ nan
 unfolding isNan
@@ -180,3 +179,16 @@ gain-within tau ts v w = chosen (lt tau 𝟎) (eq tau 𝟎) _ (by-kind w)
     by-kind : GainConstant tau → T (le tau 𝟎) ⊎ Within (𝟏 ⊖ exp binary64 (neg ts ⊘ tau)) 𝟎 𝟏
     by-kind (inl u) = inl (u .1)
     by-kind (inr u) = inr (rest _ (exp-within _ (exponent tau ts v u)))
+
+pub gain-finite : (tau ts : Float) → Interval ts → GainConstant tau → T (finite (gain-from-tau binary64 tau ts))
+unfolding ofBits
+gain-finite tau ts v w = within-finite (gain-from-tau binary64 tau ts) 𝟎 𝟏 tt tt (gain-within tau ts v w)
+
+-- ---- what is taken is finite itself
+pub interval-finite : (ts : Float) → Interval ts → T (finite ts)
+unfolding ofBits
+interval-finite ts = within-finite ts LEAST 𝟏 tt tt
+
+pub constant-finite : (tau ts : Float) → Interval ts → Constant tau ts → T (finite tau)
+unfolding ofBits
+constant-finite tau ts v w = within-finite tau ts MOST (interval-finite ts v) tt w

@@ -1,6 +1,7 @@
 -- The coefficients of a Butterworth filter of second order, binary64 whatever the format of tau and ts, and the gain of a filter of first order, over the format w.
-use mathlib.Core.Bool.{cond}
+use mathlib.Core.Bool.{Bool, _&&_, cond}
 use lib.Ieee.{Float, Format, binary64, ofBits, neg, lt, eq}
+use lib.Ieee.Scale.{finite}
 use Rattle.floats.specs.Notation.{Rounded, rounded, zero, one, two, wide}
 use Rattle.numbers.specs.Constants.{𝟏, PI}
 use Rattle.numbers.specs.Sines.{tan}
@@ -36,3 +37,6 @@ coeffs c =
 
 unfoldable pub filter-coeffs : Float → Float → Coeffs
 filter-coeffs tau ts = coeffs (tan (angle tau ts))
+
+unfoldable pub finite-coeffs : Coeffs → Bool
+finite-coeffs k = finite (k .b0) && finite (k .b1) && finite (k .b2) && finite (k .a1) && finite (k .a2)

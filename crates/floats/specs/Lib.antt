@@ -1,7 +1,9 @@
 pub mod Notation
+pub mod Decimals
 pub mod Definitions
 pub mod NoNan
 pub mod Fractions
+pub mod Tests
 pub mod Order
 pub mod Clamps
 pub mod Rounding

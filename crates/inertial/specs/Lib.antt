@@ -4,3 +4,6 @@ pub mod Kalman
 pub mod Acc
 pub mod Setup
 pub mod Setters
+pub mod Decimals
+pub mod AllFinite
+pub mod Construction

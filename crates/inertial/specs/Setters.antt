@@ -2,8 +2,7 @@
 use mathlib.Core.Bool.{Bool, true, cond, _&&_, Bool·beq}
 use lib.ListN.{replicate}
 use lib.Ieee.{Float, Format, eq}
-use lib.Ieee.Scale as scale
-use Rattle.floats.specs.Notation.{Rounded, rounded, constant, pi}
+use Rattle.floats.specs.Notation.{Rounded, rounded, pi}
 use Rattle.floats.specs.Definitions.{magnitude, larger, smaller}
 use Rattle.numbers.specs.Root.{root}
 use Rattle.algebra.specs.Quaternions.{times}
@@ -14,12 +13,13 @@ use Rattle.algebra.specs.declared.matrix.Matrix.{Matrix}
 use Rattle.filters.specs.Channels.{fresh}
 use Rattle.filters.specs.Banks.{adapt2, adapt3, adapt9, first-numbers, finite-channels}
 use Rattle.filters.specs.Coefficients.{filter-coeffs}
+unfoldable pub use Rattle.filters.specs.Coefficients.{finite-coeffs}
 use Rattle.filters.specs.declared.coeffs.Coeffs.{Coeffs}
 use Rattle.limits.specs.Answers.{Told, told}
 use Rattle.limits.specs.Limits.{tau-taken, threshold-taken, sigma-taken, bias-taken}
 use Rattle.inertial.specs.Told.{state-of, with-state, if-finite}
 use Rattle.inertial.specs.Gyr.{square, half-turn, radians}
-use Rattle.inertial.specs.Setup.{fresh-rest, fresh-state}
+use Rattle.inertial.specs.Setup.{hundred, fresh-rest, fresh-state}
 use Rattle.inertial.specs.declared.types.Bias.{Bias}
 use Rattle.inertial.specs.declared.types.BiasParams.{BiasParams}
 use Rattle.inertial.specs.declared.types.Deviations.{Deviations}
@@ -31,9 +31,6 @@ use Rattle.inertial.specs.declared.types.RestParams.{RestParams}
 use Rattle.inertial.specs.declared.setters.Sigma.{Sigma}
 use Rattle.inertial.specs.declared.setters.Sigma.the-variants.{Absent, Given}
 use Rattle.inertial.specs.declared.setters.BiasEstimate.{BiasEstimate}
-
-abbrev hundred : Format → Float
-hundred = constant 0x42c8_0000 0x4059_0000_0000_0000
 
 -- ---- a group, or a setting, in the place of another
 abbrev pub with-params : Inertial → InertialParams → Inertial
@@ -99,14 +96,6 @@ abbrev pub with-bias : Inertial → Bias → Inertial
 with-bias f b = with-state f (state-of (f .state .inclination) b (f .state .rest))
 
 -- ---- the setters
-unfoldable pub finite-coeffs : Coeffs → Bool
-finite-coeffs k =
-    scale.finite (k .b0)
-    && scale.finite (k .b1)
-    && scale.finite (k .b2)
-    && scale.finite (k .a1)
-    && scale.finite (k .a2)
-
 unfoldable pub adapted-inclination : Inclination → Coeffs → Coeffs → Inclination
 adapted-inclination i old new =
     record {

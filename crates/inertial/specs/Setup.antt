@@ -21,25 +21,25 @@ use Rattle.inertial.specs.declared.types.Rest.{Rest}
 use Rattle.inertial.specs.declared.types.RestParams.{RestParams}
 
 -- the values nearest to 3, 1.5, 100, 0.1, 0.0001, 0.03 and 1e-10
-abbrev three : Format → Float
+abbrev pub three : Format → Float
 three = constant 0x4040_0000 0x4008_0000_0000_0000
 
-abbrev one-and-a-half : Format → Float
+abbrev pub one-and-a-half : Format → Float
 one-and-a-half = constant 0x3fc0_0000 0x3ff8_0000_0000_0000
 
-abbrev hundred : Format → Float
+abbrev pub hundred : Format → Float
 hundred = constant 0x42c8_0000 0x4059_0000_0000_0000
 
-abbrev tenth : Format → Float
+abbrev pub tenth : Format → Float
 tenth = constant 0x3dcc_cccd 0x3fb9_9999_9999_999a
 
-abbrev ten-thousandth : Format → Float
+abbrev pub ten-thousandth : Format → Float
 ten-thousandth = constant 0x38d1_b717 0x3f1a_36e2_eb1c_432d
 
-abbrev three-hundredths : Format → Float
+abbrev pub three-hundredths : Format → Float
 three-hundredths = constant 0x3cf5_c28f 0x3f9e_b851_eb85_1eb8
 
-abbrev least-factor : Format → Float
+abbrev pub least-factor : Format → Float
 least-factor = constant 0x2edb_e6ff 0x3ddb_7cdf_d9d7_bdbb
 
 module _ (w : Format) where

@@ -20,7 +20,7 @@ use Rattle.magnetic.specs.declared.types.MagneticCoefficients.{MagneticC
 use Rattle.magnetic.specs.declared.types.Smoothing.{Smoothing}
 use Rattle.magnetic.specs.declared.types.Smoothing.the-variants.{Absent, Present}
 
-abbrev half-turn : Format → Float
+abbrev pub half-turn : Format → Float
 half-turn = constant 0x4334_0000 0x4066_8000_0000_0000
 
 unfoldable pub finite-field : Field → Bool

@@ -4,3 +4,6 @@ pub mod Headings
 pub mod Step
 pub mod Setup
 pub mod Setters
+pub mod Decimals
+pub mod AllFinite
+pub mod Construction

@@ -17,25 +17,25 @@ use Rattle.magnetic.specs.declared.types.Smoothing.{Smoothing}
 use Rattle.magnetic.specs.declared.types.Smoothing.the-variants.{Absent, Present}
 
 -- the values nearest to 9, 0.05, 20, 0.1, 10, 5 and 60
-abbrev nine : Format → Float
+abbrev pub nine : Format → Float
 nine = constant 0x4110_0000 0x4022_0000_0000_0000
 
-abbrev twentieth : Format → Float
+abbrev pub twentieth : Format → Float
 twentieth = constant 0x3d4c_cccd 0x3fa9_9999_9999_999a
 
-abbrev twenty : Format → Float
+abbrev pub twenty : Format → Float
 twenty = constant 0x41a0_0000 0x4034_0000_0000_0000
 
-abbrev tenth : Format → Float
+abbrev pub tenth : Format → Float
 tenth = constant 0x3dcc_cccd 0x3fb9_9999_9999_999a
 
-abbrev ten : Format → Float
+abbrev pub ten : Format → Float
 ten = constant 0x4120_0000 0x4024_0000_0000_0000
 
-abbrev five : Format → Float
+abbrev pub five : Format → Float
 five = constant 0x40a0_0000 0x4014_0000_0000_0000
 
-abbrev sixty : Format → Float
+abbrev pub sixty : Format → Float
 sixty = constant 0x4270_0000 0x404e_0000_0000_0000
 
 module _ (w : Format) where

@@ -1,5 +1,6 @@
 pub mod Whole
 pub mod Build
+pub mod Decimals
 pub mod Update
 pub mod Setters
 pub mod Asked
@@ -8,3 +9,6 @@ pub mod Refused
 pub mod Apart
 pub mod Determined
 pub mod RestHistory
+pub mod AllFinite
+pub mod Construction
+pub mod Worked

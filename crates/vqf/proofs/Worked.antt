@@ -1,0 +1,55 @@
+-- The worked values, computed from the definitions.
+use mathlib.Core.Path.{_≡_, refl}
+use lib.Ieee.{binary64, add, sub, mul, div, neg, lt, eq, le, ofInt, round, ofBits, toBits}
+use Rattle.floats.specs.Decimals.{decimal}
+use Rattle.floats.specs.Definitions.{magnitude, clamp}
+use Rattle.numbers.specs.Root.{root}
+use Rattle.numbers.specs.Sines.{ksin, kcos, reduce, sine-of, cosine-of, sine, cosine, tan}
+use Rattle.algebra.specs.Values as algebra
+use Rattle.algebra.specs.Vectors as vectors
+use Rattle.algebra.specs.Quaternions as quaternions
+use Rattle.filters.specs.Values as filters
+use Rattle.filters.specs.Coefficients.{angle, coeffs, filter-coeffs}
+use Rattle.filters.specs.Channels.{average, filter-channel, filter-adapt-state-for-coeff-change, finite-channel}
+use Rattle.filters.specs.Banks.{outputs, channels, filter-vec3, adapted, adapt2, adapt3, adapt9, first-numbers, finite-channels}
+use Rattle.limits.specs.Limits.{all-within, zero-sample}
+use Rattle.inertial.specs.Gyr as gyr
+use Rattle.inertial.specs.Acc as acc
+use Rattle.inertial.specs.Setup as inertial
+use Rattle.inertial.specs.Setters as setters
+use Rattle.vqf.specs.Build.{house, built, fresh}
+use Rattle.vqf.specs.Update.{update-gyr, update-gyr-with-ts, update-acc}
+use Rattle.vqf.specs.Setters.{set-tau-acc}
+use Rattle.vqf.specs.Worked.{Worked}
+
+tau-below : set-tau-acc binary64 (fresh binary64) (decimal binary64 9 1000) .number ≡ 4
+unfolding set-tau-acc setters.set-tau-acc fresh built house inertial.new inertial.setup inertial.house le round ofBits
+tau-below = refl
+
+tau-taken : set-tau-acc binary64 (fresh binary64) (decimal binary64 1 100) .number ≡ 0
+unfolding set-tau-acc setters.set-tau-acc setters.retuned setters.finite-coeffs setters.adapted-inclination setters.adapted-bias adapted adapt2 adapt3 adapt9 first-numbers finite-channels finite-channel filter-adapt-state-for-coeff-change filter-coeffs angle coeffs tan ksin kcos clamp fresh built house inertial.new inertial.setup inertial.house inertial.fresh-state inertial.fresh-rest add sub mul div neg lt eq le round ofBits
+tau-taken = refl
+
+gyr-taken : update-gyr binary64 (fresh binary64) (vectors.vector (algebra.whole 100) (algebra.whole 0) (algebra.whole 0)) .number ≡ 0
+unfolding update-gyr gyr.update-gyr-with-ts gyr.gyr-step gyr.gyr-rest gyr.gyr-filtered gyr.gyr-stirred gyr.squared-deviation gyr.broken gyr.finite-gyr-rest gyr.predicted gyr.turned vectors.norm vectors.finite quaternions.times quaternions.normalize quaternions.norm quaternions.finite filter-vec3 outputs channels filter-channel average finite-channels finite-channel fresh built house inertial.new inertial.setup inertial.house inertial.fresh-state inertial.fresh-rest all-within magnitude root sine cosine sine-of cosine-of reduce ksin kcos clamp add sub mul div neg lt eq le ofInt round ofBits
+gyr-taken = refl
+
+pub worked : Worked
+unfolding update-gyr update-gyr-with-ts update-acc set-tau-acc gyr.update-gyr-with-ts acc.update-acc setters.set-tau-acc all-within zero-sample neg eq le ofInt round ofBits toBits root
+worked = record {
+  product = algebra.values .0;
+  rotated = algebra.values .1;
+  inverse = algebra.values .2;
+  no-inverse = algebra.values .3;
+  an-inverse = algebra.values .4;
+  averaged = filters.values;
+  gyr-taken = gyr-taken;
+  gyr-above = refl;
+  gyr-nan = refl;
+  no-interval = refl;
+  no-sample = refl;
+  tau-taken = tau-taken;
+  tau-below = tau-below;
+  root-taken = refl;
+  root-of-zero = refl;
+}

@@ -1,0 +1,63 @@
+-- The worked values of document 01 that are marked P, each below its line. Numbers are binary64; the calls are made on the fresh house filter.
+use mathlib.Core.Path.{_≡_}
+use mathlib.Core.List.{[], _∷_}
+use Prim.Native.Nat.{_+_, _^_}
+use lib.Ieee.{Float, nan, binary64, neg, ofBits, toBits}
+use Rattle.floats.specs.Decimals.{decimal}
+use Rattle.numbers.specs.Root.{root}
+use Rattle.algebra.specs.Values.{whole, part}
+use Rattle.algebra.specs.Vectors.{vector}
+use Rattle.algebra.specs.Quaternions.{quaternion, rotate, times}
+use Rattle.algebra.specs.Matrices.{rows, invert}
+use Rattle.algebra.specs.declared.matrix.Matrix.{Matrix}
+use Rattle.algebra.specs.declared.matrix.Inverse.the-variants.{Singular, Inverted}
+use Rattle.filters.specs.Channels.{averaging, fresh, filter-initial-state}
+use Rattle.filters.specs.Banks.{filter-vec3}
+use Rattle.filters.specs.declared.coeffs.Coeffs.{Coeffs}
+use Rattle.vqf.specs.Build as build
+use Rattle.vqf.specs.Update.{update-gyr, update-gyr-with-ts, update-acc}
+use Rattle.vqf.specs.Setters.{set-tau-acc}
+use Rattle.vqf.specs.declared.types.VQF.{VQF}
+
+abbrev house : VQF
+house = build.fresh binary64
+
+abbrev diagonal : Float → Float → Float → Matrix
+diagonal a b c = rows (vector a (whole 0) (whole 0)) (vector (whole 0) b (whole 0)) (vector (whole 0) (whole 0) c)
+
+abbrev next-above : Float → Float
+next-above x = ofBits binary64 (toBits binary64 x + 1)
+
+pub record Worked : Type 0 where
+  -- "(1,2,3,4) times (5,6,7,8) = (-60,12,30,24)"
+  pub product : times binary64 (quaternion (whole 1) (whole 2) (whole 3) (whole 4)) (quaternion (whole 5) (whole 6) (whole 7) (whole 8)) ≡ quaternion (neg (whole 60)) (whole 12) (whole 30) (whole 24)
+  -- "(0.5,0.5,0.5,0.5) rotates [1,2,3] to [3,1,2]"
+  pub rotated : rotate binary64 (quaternion (part 2) (part 2) (part 2) (part 2)) (vector (whole 1) (whole 2) (whole 3)) ≡ vector (whole 3) (whole 1) (whole 2)
+  -- "inverse of diagonal 2, 4, 8 is diagonal 0.5, 0.25, 0.125"
+  pub inverse : invert binary64 (diagonal (whole 2) (whole 4) (whole 8)) ≡ Inverted (diagonal (part 2) (part 4) (part 8))
+  -- "diagonal 1, 1, 2^-52 has no inverse; with 2^-51 it has one"
+  pub no-inverse : invert binary64 (diagonal (whole 1) (whole 1) (part (2 ^ 52))) ≡ Singular
+  pub an-inverse : invert binary64 (diagonal (whole 1) (whole 1) (part (2 ^ 51))) ≡ Inverted (diagonal (whole 1) (whole 1) (whole (2 ^ 51)))
+  -- "averaging, interval 0.5, tau 1: [1,2,4] answers itself, then [3,4,8] answers [2,3,6] and averaging ends"
+  pub averaged :
+      (k : Coeffs)
+      → let first = filter-vec3 binary64 (vector (whole 1) (whole 2) (whole 4)) (whole 1) (part 2) k (fresh ∷ fresh ∷ fresh ∷ []) in
+      let second = filter-vec3 binary64 (vector (whole 3) (whole 4) (whole 8)) (whole 1) (part 2) k (first .channels) in
+      (first .y ≡ vector (whole 1) (whole 2) (whole 4))
+      × (first .channels ≡ averaging (whole 1) (whole 1) ∷ averaging (whole 1) (whole 2) ∷ averaging (whole 1) (whole 4) ∷ [])
+      × (second .y ≡ vector (whole 2) (whole 3) (whole 6))
+      × (second .channels ≡ filter-initial-state (whole 2) k ∷ filter-initial-state (whole 3) k ∷ filter-initial-state (whole 6) k ∷ [])
+  -- "gyro component 100 is taken; the next binary64 above, and NaN, give 2"
+  pub gyr-taken : update-gyr binary64 house (vector (whole 100) (whole 0) (whole 0)) .number ≡ 0
+  pub gyr-above : update-gyr binary64 house (vector (next-above (whole 100)) (whole 0) (whole 0)) .number ≡ 2
+  pub gyr-nan : update-gyr binary64 house (vector nan (whole 0) (whole 0)) .number ≡ 2
+  -- "gyro step with interval 0 gives 3"
+  pub no-interval : update-gyr-with-ts binary64 house (vector (whole 1) (whole 2) (whole 3)) (whole 0) .number ≡ 3
+  -- "accelerometer [0,-0,0] gives 1"
+  pub no-sample : update-acc binary64 house (vector (whole 0) (neg (whole 0)) (whole 0)) .number ≡ 1
+  -- "`tau_acc` 0.01 at the house interval is taken; 0.009 gives 4"
+  pub tau-taken : set-tau-acc binary64 house (decimal binary64 1 100) .number ≡ 0
+  pub tau-below : set-tau-acc binary64 house (decimal binary64 9 1000) .number ≡ 4
+  -- "square root of 2.25 is 1.5; of -0 is -0"
+  pub root-taken : root binary64 (decimal binary64 9 4) ≡ decimal binary64 3 2
+  pub root-of-zero : root binary64 (neg (whole 0)) ≡ neg (whole 0)
