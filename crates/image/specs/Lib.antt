@@ -1,0 +1,3 @@
+pub mod Marks
+pub mod Pack
+pub mod Unpack

@@ -1,0 +1,241 @@
+// A filter into an image, group by group.
+ghost use mathlib.Core.Path.{_≡_};
+ghost use Rattle.image.specs.Pack.{channels2, channels3, channels9, inertial-params, magnetic-params, inertial-coeffs, magnetic-coeffs, inclination, bias, rest, magnetic-state};
+use crate::marks::flag;
+use crate::marks::marked;
+use filters::Channel;
+use inertial::InertialCoefficients;
+use inertial::InertialParams;
+use inertial::types::Bias;
+use inertial::types::Inclination;
+use inertial::types::Rest;
+use magnetic::MagneticCoefficients;
+use magnetic::MagneticParams;
+use magnetic::MagneticState;
+use magnetic::types::Smoothing;
+
+fn channels2(c: [Channel; 2]) -> [f64; 6]
+    ensures { λ r. ⌜ r ≡ channels2 c ⌝ }
+{
+    let m0 = marked(c[0]);
+    let m1 = marked(c[1]);
+    [m0.0, m0.1, m0.2, m1.0, m1.1, m1.2]
+}
+
+fn channels3(c: [Channel; 3]) -> [f64; 9]
+    ensures { λ r. ⌜ r ≡ channels3 c ⌝ }
+{
+    let m0 = marked(c[0]);
+    let m1 = marked(c[1]);
+    let m2 = marked(c[2]);
+    [m0.0, m0.1, m0.2, m1.0, m1.1, m1.2, m2.0, m2.1, m2.2]
+}
+
+fn channels9(c: [Channel; 9]) -> [f64; 27]
+    ensures { λ r. ⌜ r ≡ channels9 c ⌝ }
+{
+    let m0 = marked(c[0]);
+    let m1 = marked(c[1]);
+    let m2 = marked(c[2]);
+    let m3 = marked(c[3]);
+    let m4 = marked(c[4]);
+    let m5 = marked(c[5]);
+    let m6 = marked(c[6]);
+    let m7 = marked(c[7]);
+    let m8 = marked(c[8]);
+    [
+        m0.0,
+        m0.1,
+        m0.2,
+        m1.0,
+        m1.1,
+        m1.2,
+        m2.0,
+        m2.1,
+        m2.2,
+        m3.0,
+        m3.1,
+        m3.2,
+        m4.0,
+        m4.1,
+        m4.2,
+        m5.0,
+        m5.1,
+        m5.2,
+        m6.0,
+        m6.1,
+        m6.2,
+        m7.0,
+        m7.1,
+        m7.2,
+        m8.0,
+        m8.1,
+        m8.2,
+    ]
+}
+
+fn inertial_params(p: InertialParams) -> [f64; 14]
+    ensures { λ r. ⌜ r ≡ inertial-params p ⌝ }
+{
+    [
+        p.tau_acc,
+        flag(p.rest.rest_bias_est_enabled),
+        flag(p.rest.mag_dist_rejection_enabled),
+        p.rest.bias_clip,
+        p.rest.rest_min_t,
+        p.rest.rest_filter_tau,
+        p.rest.rest_th_gyr,
+        p.rest.rest_th_acc,
+        flag(p.bias.motion_bias_est_enabled),
+        p.bias.bias_sigma_init,
+        p.bias.bias_forgetting_time,
+        p.bias.bias_sigma_motion,
+        p.bias.bias_vertical_forgetting_factor,
+        p.bias.bias_sigma_rest,
+    ]
+}
+
+fn magnetic_params(p: MagneticParams) -> [f64; 11]
+    ensures { λ r. ⌜ r ≡ magnetic-params p ⌝ }
+{
+    [
+        p.tau_mag,
+        p.mag_current_tau,
+        p.mag_ref_tau,
+        p.mag_norm_th,
+        p.mag_dip_th,
+        p.mag_new_time,
+        p.mag_new_first_time,
+        p.mag_new_min_gyr,
+        p.mag_min_undisturbed_time,
+        p.mag_max_rejection_time,
+        p.mag_rejection_factor,
+    ]
+}
+
+fn inertial_coeffs(k: InertialCoefficients) -> [f64; 22]
+    ensures { λ r. ⌜ r ≡ inertial-coeffs k ⌝ }
+{
+    [
+        k.gyr_ts,
+        k.acc_ts,
+        k.acc_lp.b0,
+        k.acc_lp.b1,
+        k.acc_lp.b2,
+        k.acc_lp.a1,
+        k.acc_lp.a2,
+        k.rest_gyr_lp.b0,
+        k.rest_gyr_lp.b1,
+        k.rest_gyr_lp.b2,
+        k.rest_gyr_lp.a1,
+        k.rest_gyr_lp.a2,
+        k.rest_acc_lp.b0,
+        k.rest_acc_lp.b1,
+        k.rest_acc_lp.b2,
+        k.rest_acc_lp.a1,
+        k.rest_acc_lp.a2,
+        k.bias.bias_p0,
+        k.bias.bias_v,
+        k.bias.bias_motion_w,
+        k.bias.bias_vertical_w,
+        k.bias.bias_rest_w,
+    ]
+}
+
+fn magnetic_coeffs(k: MagneticCoefficients) -> [f64; 9]
+    ensures { λ r. ⌜ r ≡ magnetic-coeffs k ⌝ }
+{
+    let lp = k.mag_norm_dip_lp;
+    match lp {
+        Smoothing::Absent => [k.mag_ts, k.k_mag, k.k_mag_ref, 0.0, 0.0, 0.0, 0.0, 0.0, 0.0],
+        Smoothing::Present(c) => {
+            [
+                k.mag_ts,
+                k.k_mag,
+                k.k_mag_ref,
+                1.0,
+                c.b0,
+                c.b1,
+                c.b2,
+                c.a1,
+                c.a2,
+            ]
+        }
+    }
+}
+
+fn inclination(s: Inclination) -> [f64; 12]
+    ensures { λ r. ⌜ r ≡ inclination s ⌝ }
+{
+    [
+        s.gyr_quat.0,
+        s.gyr_quat.1,
+        s.gyr_quat.2,
+        s.gyr_quat.3,
+        s.acc_quat.0,
+        s.acc_quat.1,
+        s.acc_quat.2,
+        s.acc_quat.3,
+        s.last_acc_lp.0,
+        s.last_acc_lp.1,
+        s.last_acc_lp.2,
+        s.last_acc_corr_angular_rate,
+    ]
+}
+
+fn bias(s: Bias) -> [f64; 12]
+    ensures { λ r. ⌜ r ≡ bias s ⌝ }
+{
+    [
+        s.bias.0,
+        s.bias.1,
+        s.bias.2,
+        s.bias_p.m00,
+        s.bias_p.m01,
+        s.bias_p.m02,
+        s.bias_p.m10,
+        s.bias_p.m11,
+        s.bias_p.m12,
+        s.bias_p.m20,
+        s.bias_p.m21,
+        s.bias_p.m22,
+    ]
+}
+
+fn rest(s: Rest) -> [f64; 10]
+    ensures { λ r. ⌜ r ≡ rest s ⌝ }
+{
+    [
+        flag(s.rest_detected),
+        s.rest_last_squared_deviations.0,
+        s.rest_last_squared_deviations.1,
+        s.rest_t,
+        s.rest_last_gyr_lp.0,
+        s.rest_last_gyr_lp.1,
+        s.rest_last_gyr_lp.2,
+        s.rest_last_acc_lp.0,
+        s.rest_last_acc_lp.1,
+        s.rest_last_acc_lp.2,
+    ]
+}
+
+fn magnetic_state(s: MagneticState) -> [f64; 14]
+    ensures { λ r. ⌜ r ≡ magnetic-state s ⌝ }
+{
+    [
+        s.heading.delta,
+        s.heading.k_mag_init,
+        s.heading.last_mag_dis_angle,
+        s.heading.last_mag_corr_angular_rate,
+        flag(s.field.mag_dist_detected),
+        s.field.mag_ref_norm,
+        s.field.mag_ref_dip,
+        s.field.mag_undisturbed_t,
+        s.field.mag_reject_t,
+        s.field.mag_candidate_norm,
+        s.field.mag_candidate_dip,
+        s.field.mag_candidate_t,
+        s.field.mag_norm_dip.0,
+        s.field.mag_norm_dip.1,
+    ]
+}
