@@ -1,3 +1,5 @@
 pub mod Marks
 pub mod Pack
 pub mod Unpack
+pub mod Put
+pub mod Image

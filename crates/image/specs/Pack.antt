@@ -1,8 +1,9 @@
 -- A filter as a list of numbers: each stored number as itself, in the order of the fields, each flag and phase as its mark. The settings come first.
+use mathlib.Core.Bool.{Bool, true, false}
 use mathlib.Core.List.{List, [], _∷_, _++_}
 use Prim.Native.Nat.{ℕ}
 use lib.Ieee.{Float, binary64}
-use Rattle.floats.specs.Notation.{zero, one}
+use Rattle.floats.specs.Notation.{zero}
 use Rattle.filters.specs.Banks.{channel}
 use Rattle.filters.specs.declared.channel.Channel.{Channel}
 use Rattle.filters.specs.declared.coeffs.Coeffs.{Coeffs}
@@ -59,9 +60,18 @@ inertial-coeffs k =
     k .bias .«bias_p0» ∷ k .bias .«bias_v» ∷ k .bias .«bias_motion_w» ∷ k .bias .«bias_vertical_w» ∷ k .bias .«bias_rest_w» ∷ []
 
 -- five zeros where the filter is absent
+abbrev present : Smoothing → Bool
+present Absent = false
+present (Present k) = true
+
+abbrev coeffs-of : Smoothing → Coeffs
+coeffs-of Absent = record { b0 = zero binary64; b1 = zero binary64; b2 = zero binary64; a1 = zero binary64; a2 = zero binary64 }
+coeffs-of (Present k) = k
+
 abbrev smoothing : Smoothing → List Float
-smoothing Absent = zero binary64 ∷ zero binary64 ∷ zero binary64 ∷ zero binary64 ∷ zero binary64 ∷ zero binary64 ∷ []
-smoothing (Present k) = one binary64 ∷ k .b0 ∷ k .b1 ∷ k .b2 ∷ k .a1 ∷ k .a2 ∷ []
+smoothing s =
+    let k = coeffs-of s in
+    flag (present s) ∷ k .b0 ∷ k .b1 ∷ k .b2 ∷ k .a1 ∷ k .a2 ∷ []
 
 unfoldable pub magnetic-coeffs : MagneticCoefficients → List Float
 magnetic-coeffs k = k .«mag_ts» ∷ k .«k_mag» ∷ k .«k_mag_ref» ∷ smoothing (k .«mag_norm_dip_lp»)
@@ -91,22 +101,32 @@ magnetic-state s =
     s .field .«mag_reject_t» ∷ s .field .«mag_candidate_norm» ∷ s .field .«mag_candidate_dip» ∷ s .field .«mag_candidate_t» ∷
     s .field .«mag_norm_dip» .0 ∷ s .field .«mag_norm_dip» .1 ∷ []
 
+-- ---- each part with its channels
+unfoldable pub all-params : InertialParams → MagneticParams → List Float
+all-params i m = inertial-params i ++ magnetic-params m
+
+unfoldable pub all-coeffs : InertialCoefficients → MagneticCoefficients → List Float
+all-coeffs i m = inertial-coeffs i ++ magnetic-coeffs m
+
+unfoldable pub all-inclination : Inclination → List Float
+all-inclination s = inclination s ++ channels3 (s .«acc_lp_state»)
+
+unfoldable pub all-bias : Bias → List Float
+all-bias s = (bias s ++ channels9 (s .«motion_bias_est_rlp_state»)) ++ channels2 (s .«motion_bias_est_bias_lp_state»)
+
+unfoldable pub all-rest : Rest → List Float
+all-rest s = (rest s ++ channels3 (s .«rest_gyr_lp_state»)) ++ channels3 (s .«rest_acc_lp_state»)
+
+unfoldable pub all-magnetic-state : MagneticState → List Float
+all-magnetic-state s = magnetic-state s ++ channels2 (s .field .«mag_norm_dip_lp_state»)
+
 -- ---- the whole
-abbrev pub pack : VQF → List Float
+unfoldable pub pack : VQF → List Float
 pack f =
     let i = f .inertial in
     let m = f .magnetic in
-    inertial-params (i .params)
-    ++ magnetic-params (m .params)
-    ++ inertial-coeffs (i .coeffs)
-    ++ magnetic-coeffs (m .coeffs)
-    ++ inclination (i .state .inclination)
-    ++ channels3 (i .state .inclination .«acc_lp_state»)
-    ++ bias (i .state .bias)
-    ++ channels9 (i .state .bias .«motion_bias_est_rlp_state»)
-    ++ channels2 (i .state .bias .«motion_bias_est_bias_lp_state»)
-    ++ rest (i .state .rest)
-    ++ channels3 (i .state .rest .«rest_gyr_lp_state»)
-    ++ channels3 (i .state .rest .«rest_acc_lp_state»)
-    ++ magnetic-state (m .state)
-    ++ channels2 (m .state .field .«mag_norm_dip_lp_state»)
+    ((((all-params (i .params) (m .params) ++ all-coeffs (i .coeffs) (m .coeffs))
+    ++ all-inclination (i .state .inclination))
+    ++ all-bias (i .state .bias))
+    ++ all-rest (i .state .rest))
+    ++ all-magnetic-state (m .state)

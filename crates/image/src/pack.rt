@@ -1,6 +1,9 @@
 // A filter into an image, group by group.
 ghost use mathlib.Core.Path.{_≡_};
-ghost use Rattle.image.specs.Pack.{channels2, channels3, channels9, inertial-params, magnetic-params, inertial-coeffs, magnetic-coeffs, inclination, bias, rest, magnetic-state};
+ghost use Prim.Native.Nat.{_+_, _≤_};
+ghost use lib.ListN.{length};
+ghost use Rattle.image.specs.Put.{put};
+ghost use Rattle.image.specs.Pack.{channels2, channels3, channels9, inertial-params, magnetic-params, inertial-coeffs, magnetic-coeffs, inclination, bias, rest, magnetic-state, all-params, all-coeffs, all-inclination, all-bias, all-rest, all-magnetic-state};
 use crate::marks::flag;
 use crate::marks::marked;
 use filters::Channel;
@@ -238,4 +241,87 @@ fn magnetic_state(s: MagneticState) -> [f64; 14]
         s.field.mag_norm_dip.0,
         s.field.mag_norm_dip.1,
     ]
+}
+
+// Writes xs over the image, from the place at on.
+fn put(image: &mut [f64], at: usize, xs: &[f64])
+    requires { ⌜ at + length (now xs) ≤ length (now image) ⌝ }
+    ensures { λ _. ⌜ (now (image .exit) ≡ put (now (xs .entry)) (now (image .entry)) at) × (length (now (image .exit)) ≡ length (now (image .entry))) ⌝ }
+{
+    let mut i = 0;
+    while i < xs.len() {
+        image[at + i] = xs[i];
+        i += 1;
+    }
+}
+
+fn put_params(image: &mut [f64], i: InertialParams, m: MagneticParams)
+    requires { ⌜ length (now image) ≡ 170 ⌝ }
+    ensures { λ _. ⌜ now (image .exit) ≡ put (all-params i m) (now (image .entry)) 0 ⌝ }
+{
+    let inertial = inertial_params(i);
+    let magnetic = magnetic_params(m);
+    put(image, 0, &inertial);
+    put(image, 14, &magnetic);
+}
+
+fn put_coeffs(image: &mut [f64], i: InertialCoefficients, m: MagneticCoefficients)
+    requires { ⌜ length (now image) ≡ 170 ⌝ }
+    ensures { λ _. ⌜ now (image .exit) ≡ put (all-coeffs i m) (now (image .entry)) 25 ⌝ }
+{
+    let inertial = inertial_coeffs(i);
+    let magnetic = magnetic_coeffs(m);
+    put(image, 25, &inertial);
+    put(image, 47, &magnetic);
+}
+
+fn put_inclination(image: &mut [f64], s: Inclination)
+    requires { ⌜ length (now image) ≡ 170 ⌝ }
+    ensures { λ _. ⌜ now (image .exit) ≡ put (all-inclination s) (now (image .entry)) 56 ⌝ }
+{
+    let numbers = inclination(s);
+    let banks = s.acc_lp_state;
+    let acc_lp = channels3(banks);
+    put(image, 56, &numbers);
+    put(image, 68, &acc_lp);
+}
+
+fn put_bias(image: &mut [f64], s: Bias)
+    requires { ⌜ length (now image) ≡ 170 ⌝ }
+    ensures { λ _. ⌜ now (image .exit) ≡ put (all-bias s) (now (image .entry)) 77 ⌝ }
+{
+    let numbers = bias(s);
+    let nine = s.motion_bias_est_rlp_state;
+    let two = s.motion_bias_est_bias_lp_state;
+    let rlp = channels9(nine);
+    let bias_lp = channels2(two);
+    put(image, 77, &numbers);
+    put(image, 89, &rlp);
+    put(image, 116, &bias_lp);
+}
+
+fn put_rest(image: &mut [f64], s: Rest)
+    requires { ⌜ length (now image) ≡ 170 ⌝ }
+    ensures { λ _. ⌜ now (image .exit) ≡ put (all-rest s) (now (image .entry)) 122 ⌝ }
+{
+    let numbers = rest(s);
+    let of_gyr = s.rest_gyr_lp_state;
+    let of_acc = s.rest_acc_lp_state;
+    let gyr_lp = channels3(of_gyr);
+    let acc_lp = channels3(of_acc);
+    put(image, 122, &numbers);
+    put(image, 132, &gyr_lp);
+    put(image, 141, &acc_lp);
+}
+
+fn put_magnetic_state(image: &mut [f64], s: MagneticState)
+    requires { ⌜ length (now image) ≡ 170 ⌝ }
+    ensures { λ _. ⌜ now (image .exit) ≡ put (all-magnetic-state s) (now (image .entry)) 150 ⌝ }
+{
+    let numbers = magnetic_state(s);
+    let field = s.field;
+    let two = field.mag_norm_dip_lp_state;
+    let norm_dip_lp = channels2(two);
+    put(image, 150, &numbers);
+    put(image, 164, &norm_dip_lp);
 }

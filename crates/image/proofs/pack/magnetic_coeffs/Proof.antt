@@ -1,3 +1,4 @@
+use Rattle.image.specs.Marks.{flag}
 use Rattle.image.specs.Pack.{magnetic-coeffs}
 use borrow.Author.Needs.{needs}
 use Rattle.image.proofs.pack.magnetic_coeffs.Statement.{statement}
@@ -15,12 +16,12 @@ enum-known-lp c = search needs
 
 -- src/pack.rt:67:1
 returns : tie.Need-returns
-unfolding magnetic-coeffs
+unfolding magnetic-coeffs flag
 returns c = simp (c .enum-told .given .1)
 
 -- src/pack.rt:67:1
 returns-2 : tie.Need-returns-2
-unfolding magnetic-coeffs
+unfolding magnetic-coeffs flag
 returns-2 c = simp (c .before .lp .given .1)
 
 pub magnetic-coeffs-spec : {M : Type 1} → statement M
