@@ -3,3 +3,4 @@ pub mod Pack
 pub mod Unpack
 pub mod Put
 pub mod Image
+pub mod Inverse

@@ -68,7 +68,7 @@ abbrev coeffs-of : Smoothing → Coeffs
 coeffs-of Absent = record { b0 = zero binary64; b1 = zero binary64; b2 = zero binary64; a1 = zero binary64; a2 = zero binary64 }
 coeffs-of (Present k) = k
 
-abbrev smoothing : Smoothing → List Float
+abbrev pub smoothing : Smoothing → List Float
 smoothing s =
     let k = coeffs-of s in
     flag (present s) ∷ k .b0 ∷ k .b1 ∷ k .b2 ∷ k .a1 ∷ k .a2 ∷ []
