@@ -15,6 +15,7 @@ use Rattle.vqf.specs.declared.types.VQF.{VQF}
 use Rattle.image.specs.Marks.{flag, on, on-flag, channel-marked}
 use Rattle.image.specs.Pack as to
 use Rattle.image.specs.Unpack as of
+use Rattle.image.specs.Image.{unpack}
 
 -- each bank has its length
 pub record Whole (f : VQF) : Type 0 where
@@ -54,9 +55,9 @@ unfolding flag on ofBits eq ne
 smoothed Absent = refl
 smoothed (Present k) = refl
 
-pub unpack-pack : (f : VQF) → Whole f → of.unpack (to.pack f) ≡ f
+read-pack : (f : VQF) → Whole f → of.read (to.pack f) ≡ f
 unfolding to.pack to.all-params to.all-coeffs to.all-inclination to.all-bias to.all-rest to.all-magnetic-state to.inertial-params to.magnetic-params to.inertial-coeffs to.magnetic-coeffs to.inclination to.bias to.rest to.magnetic-state to.channels2 to.channels3 to.channels9 of.inertial-params of.magnetic-params of.inertial-coeffs of.magnetic-coeffs of.inclination of.bias of.rest of.magnetic-state
-unpack-pack f h = λ j. record {
+read-pack f h = λ j. record {
   inertial = record {
     params = record {
       «tau_acc» = f .inertial .params .«tau_acc»;
@@ -129,3 +130,7 @@ unpack-pack f h = λ j. record {
     };
   };
 }
+
+pub unpack-pack : (f : VQF) → Whole f → unpack (to.pack f) ≡ f
+unfolding to.pack to.all-params to.all-coeffs to.all-inclination to.all-bias to.all-rest to.all-magnetic-state to.inertial-params to.magnetic-params to.inertial-coeffs to.magnetic-coeffs to.inclination to.bias to.rest to.magnetic-state to.channels2 to.channels3 to.channels9 unpack
+unpack-pack f h = read-pack f h

@@ -95,8 +95,8 @@ magnetic-params s = record {
   «mag_rejection_factor» = number s 24;
 }
 
-abbrev pub params : List Float → Params
-params s = record { inertial = inertial-params s; magnetic = magnetic-params s }
+abbrev pub read-params : List Float → Params
+read-params s = record { inertial = inertial-params s; magnetic = magnetic-params s }
 
 -- ---- coefficients
 unfoldable pub inertial-coeffs : List Float → InertialCoefficients
@@ -180,5 +180,5 @@ inertial s = record {
 abbrev pub magnetic : List Float → Magnetic
 magnetic s = record { params = magnetic-params s; coeffs = magnetic-coeffs s; state = magnetic-state s }
 
-abbrev pub unpack : List Float → VQF
-unpack s = record { inertial = inertial s; magnetic = magnetic s }
+abbrev pub read : List Float → VQF
+read s = record { inertial = inertial s; magnetic = magnetic s }

@@ -3,7 +3,8 @@ ghost use mathlib.Core.Path.{_≡_};
 ghost use Prim.Native.Nat.{_+_, _≤_};
 ghost use lib.ListN.{length};
 ghost use Rattle.image.specs.Put.{put};
-ghost use Rattle.image.specs.Pack.{channels2, channels3, channels9, inertial-params, magnetic-params, inertial-coeffs, magnetic-coeffs, inclination, bias, rest, magnetic-state, all-params, all-coeffs, all-inclination, all-bias, all-rest, all-magnetic-state};
+ghost use Rattle.image.specs.Pack.{channels2, channels3, channels9, inertial-params, magnetic-params, inertial-coeffs, magnetic-coeffs, inclination, bias, rest, magnetic-state, all-params, all-coeffs, all-inclination, all-bias, all-rest, all-magnetic-state, pack};
+ghost use Rattle.image.specs.Image.{fits, packed};
 use crate::marks::flag;
 use crate::marks::marked;
 use filters::Channel;
@@ -16,6 +17,7 @@ use magnetic::MagneticCoefficients;
 use magnetic::MagneticParams;
 use magnetic::MagneticState;
 use magnetic::types::Smoothing;
+use vqf::VQF;
 
 fn channels2(c: [Channel; 2]) -> [f64; 6]
     ensures { λ r. ⌜ r ≡ channels2 c ⌝ }
@@ -324,4 +326,39 @@ fn put_magnetic_state(image: &mut [f64], s: MagneticState)
     let norm_dip_lp = channels2(two);
     put(image, 150, &numbers);
     put(image, 164, &norm_dip_lp);
+}
+
+fn put_all(image: &mut [f64], f: VQF)
+    requires { ⌜ length (now image) ≡ 170 ⌝ }
+    ensures { λ _. ⌜ now (image .exit) ≡ pack f ⌝ }
+{
+    let i = f.inertial;
+    let m = f.magnetic;
+    let i_params = i.params;
+    let m_params = m.params;
+    let i_coeffs = i.coeffs;
+    let m_coeffs = m.coeffs;
+    let state = i.state;
+    let inclination = state.inclination;
+    let bias = state.bias;
+    let rest = state.rest;
+    let m_state = m.state;
+    put_params(image, i_params, m_params);
+    put_coeffs(image, i_coeffs, m_coeffs);
+    put_inclination(image, inclination);
+    put_bias(image, bias);
+    put_rest(image, rest);
+    put_magnetic_state(image, m_state);
+}
+
+// Writes the filter, where the image has 170 numbers, and says whether it has.
+pub fn pack(image: &mut [f64], f: VQF) -> bool
+    ensures { λ r. ⌜ (r ≡ fits (now (image .entry))) × (now (image .exit) ≡ packed (now (image .entry)) f) ⌝ }
+{
+    if image.len() == 170 {
+        put_all(image, f);
+        true
+    } else {
+        false
+    }
 }

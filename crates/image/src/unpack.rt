@@ -1,11 +1,9 @@
 // An image into a filter, group by group.
 ghost use mathlib.Core.Path.{_≡_};
-ghost use mathlib.Core.Bool.{cond};
 ghost use Prim.Native.Nat.{_+_, _≤_};
-ghost use lib.Dec.{eqb};
 ghost use lib.ListN.{length};
-ghost use lib.Ieee.{binary64};
-ghost use Rattle.image.specs.Unpack.{vector, quaternion, matrix, coeffs, smoothing, channel-at, channels2, channels3, channels9, inertial-params, magnetic-params, params, inertial-coeffs, magnetic-coeffs, inclination, bias, rest, magnetic-state, unpack};
+ghost use Rattle.image.specs.Unpack.{vector, quaternion, matrix, coeffs, smoothing, channel-at, channels2, channels3, channels9, inertial-params, magnetic-params, read-params, inertial-coeffs, magnetic-coeffs, inclination, bias, rest, magnetic-state, inertial, magnetic};
+ghost use Rattle.image.specs.Image.{unpack, params};
 use crate::marks::channel;
 use crate::marks::on;
 use algebra::Matrix;
@@ -294,4 +292,73 @@ fn magnetic_state(s: &[f64]) -> MagneticState
         mag_norm_dip_lp_state,
     };
     MagneticState { heading, field }
+}
+
+fn read_params(s: &[f64]) -> Params
+    requires { ⌜ 25 ≤ length (now s) ⌝ }
+    ensures { λ r. ⌜ r ≡ read-params (now (s .entry)) ⌝ }
+{
+    let inertial = inertial_params(s);
+    let magnetic = magnetic_params(s);
+    Params { inertial, magnetic }
+}
+
+fn read_inertial(s: &[f64]) -> Inertial
+    requires { ⌜ 170 ≤ length (now s) ⌝ }
+    ensures { λ r. ⌜ r ≡ inertial (now (s .entry)) ⌝ }
+{
+    let params = inertial_params(s);
+    let coeffs = inertial_coeffs(s);
+    let inclination = inclination(s);
+    let bias = bias(s);
+    let rest = rest(s);
+    let state = InertialState {
+        inclination,
+        bias,
+        rest,
+    };
+    Inertial {
+        params,
+        coeffs,
+        state,
+    }
+}
+
+fn read_magnetic(s: &[f64]) -> Magnetic
+    requires { ⌜ 170 ≤ length (now s) ⌝ }
+    ensures { λ r. ⌜ r ≡ magnetic (now (s .entry)) ⌝ }
+{
+    let params = magnetic_params(s);
+    let coeffs = magnetic_coeffs(s);
+    let state = magnetic_state(s);
+    Magnetic {
+        params,
+        coeffs,
+        state,
+    }
+}
+
+// The filter of an image of 170 numbers; of any other, the fresh house filter.
+pub fn unpack(image: &[f64]) -> VQF
+    ensures { λ r. ⌜ r ≡ unpack (now (image .entry)) ⌝ }
+{
+    if image.len() == 170 {
+        let inertial = read_inertial(image);
+        let magnetic = read_magnetic(image);
+        VQF { inertial, magnetic }
+    } else {
+        VQF::fresh()
+    }
+}
+
+// The settings that 25 numbers give, in the order in which an image has them; any other number of
+// them gives the house settings.
+pub fn params(settings: &[f64]) -> Params
+    ensures { λ r. ⌜ r ≡ params (now (settings .entry)) ⌝ }
+{
+    if settings.len() == 25 {
+        read_params(settings)
+    } else {
+        Params::house()
+    }
 }
