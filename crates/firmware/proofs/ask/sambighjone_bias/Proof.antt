@@ -1,0 +1,44 @@
+use borrow.Author.Tests.{eq-eqb, ne-eqb}
+use mathlib.Core.Path.{ap}
+use Rattle.firmware.specs.Calls.{bias-and-sigma}
+use Rattle.firmware.proofs.Laws.{asked-done, asked-refused}
+use borrow.Author.Needs.{needs}
+use Rattle.firmware.proofs.ask.sambighjone_bias.Statement.{statement}
+use Rattle.firmware.proofs.ask.sambighjone_bias.Tie as tie
+use Rattle.firmware.proofs.ask.sambighjone_bias.Reads as reads
+use Rattle.firmware.proofs.ask.sambighjone_bias.Lts as lts
+use Rattle.firmware.proofs.ask.put_four.Reads as put-four-reads
+use Rattle.image.proofs.unpack.unpack.Reads as unpack-reads
+use Rattle.vqf.proofs.types.VQF.bias_estimate.Reads as bias-estimate-reads
+
+returns : tie.Need-returns
+returns c = asked-refused _ _ _ (ne-eqb _ _ (c .if1 .taken))
+
+unpack-requires : tie.Need-unpack-requires
+unpack-requires c κs = search needs
+
+bias-estimate-requires : tie.Need-bias-estimate-requires
+bias-estimate-requires c κs = search needs
+
+put-four-requires : tie.Need-put-four-requires
+put-four-requires c κs = search needs
+
+same-length : tie.Need-same-length
+same-length c = search needs
+
+returns-2 : tie.Need-returns-2
+returns-2 c =
+    let called = c .before .before .before .before in
+    let read = c .before .before .before .before .before in
+    asked-done _ _ _ (read .unpack .result) _ _ (eq-eqb _ _ (read .before .if1 .left)) (read .unpack .ensures) (ap bias-and-sigma (called .bias-estimate .ensures)) (c .before .before .put-four .ensures)
+
+pub sambighjone-bias-spec : {M : Type 1} → statement M
+sambighjone-bias-spec =
+    tie.close
+    (tie.spec
+    returns
+    unpack-requires
+    bias-estimate-requires
+    put-four-requires
+    same-length
+    returns-2)

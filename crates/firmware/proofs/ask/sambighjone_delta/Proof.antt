@@ -1,0 +1,39 @@
+use borrow.Author.Tests.{eq-eqb, ne-eqb}
+use mathlib.Core.Path.{ap}
+use mathlib.Core.List.{[], _∷_}
+use lib.Ieee.{Float}
+use Rattle.firmware.proofs.Laws.{asked-done, asked-refused}
+use borrow.Author.Needs.{needs}
+use Rattle.firmware.proofs.ask.sambighjone_delta.Statement.{statement}
+use Rattle.firmware.proofs.ask.sambighjone_delta.Tie as tie
+use Rattle.firmware.proofs.ask.sambighjone_delta.Reads as reads
+use Rattle.firmware.proofs.ask.sambighjone_delta.Lts as lts
+use Rattle.firmware.proofs.ask.put_one.Reads as put-one-reads
+use Rattle.image.proofs.unpack.unpack.Reads as unpack-reads
+use Rattle.vqf.proofs.types.VQF.delta.Reads as delta-reads
+
+returns : tie.Need-returns
+returns c = asked-refused _ _ _ (ne-eqb _ _ (c .if1 .taken))
+
+unpack-requires : tie.Need-unpack-requires
+unpack-requires c κs = search needs
+
+delta-requires : tie.Need-delta-requires
+delta-requires c κs = search needs
+
+put-one-requires : tie.Need-put-one-requires
+put-one-requires c κs = search needs
+
+same-length : tie.Need-same-length
+same-length c = search needs
+
+returns-2 : tie.Need-returns-2
+returns-2 c =
+    let called = c .before .before .before in
+    let read = c .before .before .before .before .before in
+    asked-done _ _ _ (read .unpack .result) _ _ (eq-eqb _ _ (read .before .if1 .left)) (read .unpack .ensures) (ap (λ (x : Float). x ∷ []) (called .delta .ensures)) (c .before .before .put-one .ensures)
+
+pub sambighjone-delta-spec : {M : Type 1} → statement M
+sambighjone-delta-spec =
+    tie.close
+    (tie.spec returns unpack-requires delta-requires put-one-requires same-length returns-2)

@@ -1,0 +1,2 @@
+#include <stdint.h>
+#define PRIx64 "lx"

@@ -1,0 +1,2 @@
+typedef unsigned int uint32_t;
+typedef unsigned long uint64_t;

@@ -1,0 +1,3 @@
+#include <stddef.h>
+void *memcpy(void *to, const void *from, size_t n);
+int memcmp(const void *a, const void *b, size_t n);
