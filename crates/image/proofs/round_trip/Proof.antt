@@ -1,3 +1,4 @@
+-- `unpack` undoes `pack`; the types of the code give each bank its length.
 use mathlib.Core.Path.{ap, _∙_}
 use lib.ListN.{length-map}
 use Rattle.image.specs.Image.{unpack}
@@ -5,28 +6,19 @@ use Rattle.image.specs.Inverse.{unpack-pack}
 use borrow.Author.Needs.{needs}
 use Rattle.image.proofs.round_trip.Statement.{statement}
 use Rattle.image.proofs.round_trip.Tie as tie
-use Rattle.image.proofs.round_trip.Reads as reads
-use Rattle.image.proofs.round_trip.Lts as lts
-use Rattle.image.proofs.pack.pack.Reads as pack-reads
-use Rattle.image.proofs.unpack.unpack.Reads as unpack-reads
 
--- src/lib.rt:14:16
 slice-aggregate-pack : tie.Need-slice-aggregate-pack
 slice-aggregate-pack c = search needs
 
--- src/lib.rt:14:5
 pack-requires : tie.Need-pack-requires
 pack-requires c κs = search needs
 
--- src/lib.rt:15:20
 slice-aggregate-unpack : tie.Need-slice-aggregate-unpack
 slice-aggregate-unpack c = search needs
 
--- src/lib.rt:15:5
 unpack-requires : tie.Need-unpack-requires
 unpack-requires c κs = search needs
 
--- src/lib.rt:10:1
 returns : tie.Need-returns
 returns c =
     let s = c .before .before .before .before .before in
