@@ -1,4 +1,4 @@
--- `unpack` undoes `pack`. A bank of channels is a list here, so the law asks that each has its length, as it has in every filter of the code (`round_trip`).
+-- `unpack` undoes `pack`. A bank of channels is a list here, so the law asks that each has its length, as it has in every filter of the code (`round_trip` of src/lib.rt).
 use mathlib.Core.Path.{_≡_, refl, ap, _∙_}
 use mathlib.Core.Bool.{Bool}
 use mathlib.Core.List.{List, [], _∷_}

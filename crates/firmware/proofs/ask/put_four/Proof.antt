@@ -1,3 +1,4 @@
+-- As many stores as there is room for.
 use borrow.Author.Tests.{eq-eqb, ne-eqb}
 use mathlib.Core.Path.{ap}
 use Rattle.limits.specs.Answers.{told}
@@ -6,8 +7,6 @@ use Rattle.firmware.proofs.Laws.{filled}
 use borrow.Author.Needs.{needs}
 use Rattle.firmware.proofs.ask.put_four.Statement.{statement}
 use Rattle.firmware.proofs.ask.put_four.Tie as tie
-use Rattle.firmware.proofs.ask.put_four.Reads as reads
-use Rattle.firmware.proofs.ask.put_four.Lts as lts
 
 returns : tie.Need-returns
 unfolding given

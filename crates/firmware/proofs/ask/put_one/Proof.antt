@@ -1,3 +1,4 @@
+-- As many stores as there is room for.
 use borrow.Author.Tests.{eq-eqb, ne-eqb}
 use mathlib.Core.Path.{ap}
 use Rattle.limits.specs.Answers.{told}
@@ -7,8 +8,6 @@ use Rattle.firmware.proofs.Laws.{filled}
 use borrow.Author.Needs.{needs}
 use Rattle.firmware.proofs.ask.put_one.Statement.{statement}
 use Rattle.firmware.proofs.ask.put_one.Tie as tie
-use Rattle.firmware.proofs.ask.put_one.Reads as reads
-use Rattle.firmware.proofs.ask.put_one.Lts as lts
 
 returns : tie.Need-returns
 unfolding given

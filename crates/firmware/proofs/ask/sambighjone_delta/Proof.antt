@@ -1,3 +1,4 @@
+-- The call by value, on what is read of the image.
 use borrow.Author.Tests.{eq-eqb, ne-eqb}
 use mathlib.Core.Path.{ap}
 use mathlib.Core.List.{[], _∷_}
@@ -6,11 +7,6 @@ use Rattle.firmware.proofs.Laws.{asked-done, asked-refused}
 use borrow.Author.Needs.{needs}
 use Rattle.firmware.proofs.ask.sambighjone_delta.Statement.{statement}
 use Rattle.firmware.proofs.ask.sambighjone_delta.Tie as tie
-use Rattle.firmware.proofs.ask.sambighjone_delta.Reads as reads
-use Rattle.firmware.proofs.ask.sambighjone_delta.Lts as lts
-use Rattle.firmware.proofs.ask.put_one.Reads as put-one-reads
-use Rattle.image.proofs.unpack.unpack.Reads as unpack-reads
-use Rattle.vqf.proofs.types.VQF.delta.Reads as delta-reads
 
 returns : tie.Need-returns
 returns c = asked-refused _ _ _ (ne-eqb _ _ (c .if1 .taken))

@@ -1,12 +1,9 @@
+-- The call by value, on what is read of the image.
 use borrow.Author.Tests.{eq-eqb, ne-eqb}
 use Rattle.firmware.specs.Calls.{told-flag}
 use borrow.Author.Needs.{needs}
 use Rattle.firmware.proofs.ask.sambighjone_disturbed.Statement.{statement}
 use Rattle.firmware.proofs.ask.sambighjone_disturbed.Tie as tie
-use Rattle.firmware.proofs.ask.sambighjone_disturbed.Reads as reads
-use Rattle.firmware.proofs.ask.sambighjone_disturbed.Lts as lts
-use Rattle.image.proofs.unpack.unpack.Reads as unpack-reads
-use Rattle.vqf.proofs.types.VQF.mag_dist_detected.Reads as mag-dist-detected-reads
 
 returns : tie.Need-returns
 unfolding told-flag

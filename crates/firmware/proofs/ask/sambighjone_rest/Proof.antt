@@ -1,12 +1,9 @@
+-- The call by value, on what is read of the image.
 use borrow.Author.Tests.{eq-eqb, ne-eqb}
 use Rattle.firmware.specs.Calls.{told-flag}
 use borrow.Author.Needs.{needs}
 use Rattle.firmware.proofs.ask.sambighjone_rest.Statement.{statement}
 use Rattle.firmware.proofs.ask.sambighjone_rest.Tie as tie
-use Rattle.firmware.proofs.ask.sambighjone_rest.Reads as reads
-use Rattle.firmware.proofs.ask.sambighjone_rest.Lts as lts
-use Rattle.image.proofs.unpack.unpack.Reads as unpack-reads
-use Rattle.vqf.proofs.types.VQF.rest_detected.Reads as rest-detected-reads
 
 returns : tie.Need-returns
 unfolding told-flag

@@ -1,3 +1,4 @@
+-- The call by value; what the image had does not matter.
 use borrow.Author.Tests.{eq-eqb, ne-eqb}
 use mathlib.Core.Path.{refl}
 use Rattle.image.specs.Image.{unpack}
@@ -6,11 +7,6 @@ use Rattle.firmware.proofs.Laws.{fed-done, fed-refused}
 use borrow.Author.Needs.{needs}
 use Rattle.firmware.proofs.build.sambighjone_build.Statement.{statement}
 use Rattle.firmware.proofs.build.sambighjone_build.Tie as tie
-use Rattle.firmware.proofs.build.sambighjone_build.Reads as reads
-use Rattle.firmware.proofs.build.sambighjone_build.Lts as lts
-use Rattle.firmware.proofs.kept.keep.Reads as keep-reads
-use Rattle.image.proofs.unpack.params.Reads as params-reads
-use Rattle.vqf.proofs.types.VQF.new.Reads as new-reads
 
 returns : tie.Need-returns
 unfolding built

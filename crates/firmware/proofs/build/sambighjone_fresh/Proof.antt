@@ -1,3 +1,4 @@
+-- The call by value; what the image had does not matter.
 use borrow.Author.Tests.{eq-eqb, ne-eqb}
 use mathlib.Core.Path.{refl, ap}
 use Rattle.limits.specs.Answers.{told}
@@ -7,10 +8,6 @@ use Rattle.firmware.proofs.Laws.{fed-done, fed-refused}
 use borrow.Author.Needs.{needs}
 use Rattle.firmware.proofs.build.sambighjone_fresh.Statement.{statement}
 use Rattle.firmware.proofs.build.sambighjone_fresh.Tie as tie
-use Rattle.firmware.proofs.build.sambighjone_fresh.Reads as reads
-use Rattle.firmware.proofs.build.sambighjone_fresh.Lts as lts
-use Rattle.firmware.proofs.kept.keep.Reads as keep-reads
-use Rattle.vqf.proofs.types.VQF.fresh.Reads as fresh-reads
 
 returns : tie.Need-returns
 returns c = fed-refused _ _ (ne-eqb _ _ (c .if1 .taken))

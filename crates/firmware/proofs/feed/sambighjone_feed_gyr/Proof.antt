@@ -1,13 +1,9 @@
+-- The call by value, on what is read of the image.
 use borrow.Author.Tests.{eq-eqb, ne-eqb}
 use Rattle.firmware.proofs.Laws.{fed-done, fed-refused}
 use borrow.Author.Needs.{needs}
 use Rattle.firmware.proofs.feed.sambighjone_feed_gyr.Statement.{statement}
 use Rattle.firmware.proofs.feed.sambighjone_feed_gyr.Tie as tie
-use Rattle.firmware.proofs.feed.sambighjone_feed_gyr.Reads as reads
-use Rattle.firmware.proofs.feed.sambighjone_feed_gyr.Lts as lts
-use Rattle.firmware.proofs.kept.keep.Reads as keep-reads
-use Rattle.image.proofs.unpack.unpack.Reads as unpack-reads
-use Rattle.vqf.proofs.types.VQF.update_gyr.Reads as update-gyr-reads
 
 returns : tie.Need-returns
 returns c = fed-refused _ _ (ne-eqb _ _ (c .if1 .taken))

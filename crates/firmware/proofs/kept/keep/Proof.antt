@@ -1,11 +1,8 @@
+-- The answer by its number, the filter as its image.
 use Rattle.limits.specs.Answers.{told}
 use borrow.Author.Needs.{needs}
 use Rattle.firmware.proofs.kept.keep.Statement.{statement}
 use Rattle.firmware.proofs.kept.keep.Tie as tie
-use Rattle.firmware.proofs.kept.keep.Reads as reads
-use Rattle.firmware.proofs.kept.keep.Lts as lts
-use Rattle.firmware.proofs.kept.number.Reads as number-reads
-use Rattle.image.proofs.pack.pack.Reads as pack-reads
 
 pack-requires : tie.Need-pack-requires
 pack-requires c κs = search needs

@@ -1,15 +1,12 @@
+-- By the branch taken.
 use Rattle.image.specs.Marks.{flag}
 use Rattle.image.proofs.marks.flag.Statement.{statement}
 use Rattle.image.proofs.marks.flag.Tie as tie
-use Rattle.image.proofs.marks.flag.Reads as reads
-use Rattle.image.proofs.marks.flag.Lts as lts
 
--- src/marks.rt:10:1
 returns : tie.Need-returns
 unfolding flag
 returns c = simp (c .if1 .taken)
 
--- src/marks.rt:10:1
 returns-2 : tie.Need-returns-2
 unfolding flag
 returns-2 c = simp (c .if1 .left)

@@ -1,24 +1,19 @@
+-- By the branch taken.
 use Rattle.image.specs.Marks.{marked}
 use borrow.Author.Needs.{needs}
 use Rattle.image.proofs.marks.marked.Statement.{statement}
 use Rattle.image.proofs.marks.marked.Tie as tie
-use Rattle.image.proofs.marks.marked.Reads as reads
-use Rattle.image.proofs.marks.marked.Lts as lts
 
--- src/marks.rt:27:26
 enum-known-phase : tie.Need-enum-known-phase
 enum-known-phase c = search needs
 
--- src/marks.rt:28:24
 enum-known-phase-2 : tie.Need-enum-known-phase-2
 enum-known-phase-2 c = search needs
 
--- src/marks.rt:22:1
 returns : tie.Need-returns
 unfolding marked
 returns c = simp (c .before .phase .given .1)
 
--- src/marks.rt:22:1
 returns-2 : tie.Need-returns-2
 unfolding marked
 returns-2 c = simp (c .before .phase2 .given .1)

@@ -1,11 +1,9 @@
+-- By the branch taken.
 use mathlib.Core.Path.{refl}
 use Rattle.image.specs.Marks.{on}
 use Rattle.image.proofs.marks.on.Statement.{statement}
 use Rattle.image.proofs.marks.on.Tie as tie
-use Rattle.image.proofs.marks.on.Reads as reads
-use Rattle.image.proofs.marks.on.Lts as lts
 
--- src/marks.rt:16:1
 returns : tie.Need-returns
 unfolding on
 returns c = refl

@@ -1,11 +1,9 @@
+-- Number by number.
 use mathlib.Core.Path.{refl}
 use Rattle.image.specs.Pack.{bias}
 use Rattle.image.proofs.pack.bias.Statement.{statement}
 use Rattle.image.proofs.pack.bias.Tie as tie
-use Rattle.image.proofs.pack.bias.Reads as reads
-use Rattle.image.proofs.pack.bias.Lts as lts
 
--- src/pack.rt:85:1
 returns : tie.Need-returns
 unfolding bias
 returns c = refl

@@ -1,28 +1,21 @@
+-- Number by number.
 use Rattle.image.specs.Pack.{channels2}
 use borrow.Author.Needs.{needs}
 use Rattle.image.proofs.pack.channels2.Statement.{statement}
 use Rattle.image.proofs.pack.channels2.Tie as tie
-use Rattle.image.proofs.pack.channels2.Reads as reads
-use Rattle.image.proofs.pack.channels2.Lts as lts
-use Rattle.image.proofs.marks.marked.Reads as marked-reads
 
--- src/pack.rt:20:21
 array-copy-out-marked : tie.Need-array-copy-out-marked
 array-copy-out-marked c = search needs
 
--- src/pack.rt:20:9
 marked-requires : tie.Need-marked-requires
 marked-requires c κs = search needs
 
--- src/pack.rt:21:21
 array-copy-out-marked-2 : tie.Need-array-copy-out-marked-2
 array-copy-out-marked-2 c = search needs
 
--- src/pack.rt:21:9
 marked-requires-2 : tie.Need-marked-requires-2
 marked-requires-2 c κs = search needs
 
--- src/pack.rt:17:1
 returns : tie.Need-returns
 unfolding channels2
 returns c = simp (c .marked2 .ensures, c .before .before .marked .ensures)

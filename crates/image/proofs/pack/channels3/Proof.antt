@@ -1,36 +1,27 @@
+-- Number by number.
 use Rattle.image.specs.Pack.{channels3}
 use borrow.Author.Needs.{needs}
 use Rattle.image.proofs.pack.channels3.Statement.{statement}
 use Rattle.image.proofs.pack.channels3.Tie as tie
-use Rattle.image.proofs.pack.channels3.Reads as reads
-use Rattle.image.proofs.pack.channels3.Lts as lts
-use Rattle.image.proofs.marks.marked.Reads as marked-reads
 
--- src/pack.rt:28:21
 array-copy-out-marked : tie.Need-array-copy-out-marked
 array-copy-out-marked c = search needs
 
--- src/pack.rt:28:9
 marked-requires : tie.Need-marked-requires
 marked-requires c κs = search needs
 
--- src/pack.rt:29:21
 array-copy-out-marked-2 : tie.Need-array-copy-out-marked-2
 array-copy-out-marked-2 c = search needs
 
--- src/pack.rt:29:9
 marked-requires-2 : tie.Need-marked-requires-2
 marked-requires-2 c κs = search needs
 
--- src/pack.rt:30:21
 array-copy-out-marked-3 : tie.Need-array-copy-out-marked-3
 array-copy-out-marked-3 c = search needs
 
--- src/pack.rt:30:9
 marked-requires-3 : tie.Need-marked-requires-3
 marked-requires-3 c κs = search needs
 
--- src/pack.rt:25:1
 returns : tie.Need-returns
 unfolding channels3
 returns c = simp (c .marked3 .ensures, c .before .before .marked2 .ensures, c .before .before .before .before .marked .ensures)

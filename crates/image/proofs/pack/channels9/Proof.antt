@@ -1,84 +1,63 @@
+-- Number by number.
 use Rattle.image.specs.Pack.{channels9}
 use borrow.Author.Needs.{needs}
 use Rattle.image.proofs.pack.channels9.Statement.{statement}
 use Rattle.image.proofs.pack.channels9.Tie as tie
-use Rattle.image.proofs.pack.channels9.Reads as reads
-use Rattle.image.proofs.pack.channels9.Lts as lts
-use Rattle.image.proofs.marks.marked.Reads as marked-reads
 
--- src/pack.rt:37:21
 array-copy-out-marked : tie.Need-array-copy-out-marked
 array-copy-out-marked c = search needs
 
--- src/pack.rt:37:9
 marked-requires : tie.Need-marked-requires
 marked-requires c κs = search needs
 
--- src/pack.rt:38:21
 array-copy-out-marked-2 : tie.Need-array-copy-out-marked-2
 array-copy-out-marked-2 c = search needs
 
--- src/pack.rt:38:9
 marked-requires-2 : tie.Need-marked-requires-2
 marked-requires-2 c κs = search needs
 
--- src/pack.rt:39:21
 array-copy-out-marked-3 : tie.Need-array-copy-out-marked-3
 array-copy-out-marked-3 c = search needs
 
--- src/pack.rt:39:9
 marked-requires-3 : tie.Need-marked-requires-3
 marked-requires-3 c κs = search needs
 
--- src/pack.rt:40:21
 array-copy-out-marked-4 : tie.Need-array-copy-out-marked-4
 array-copy-out-marked-4 c = search needs
 
--- src/pack.rt:40:9
 marked-requires-4 : tie.Need-marked-requires-4
 marked-requires-4 c κs = search needs
 
--- src/pack.rt:41:21
 array-copy-out-marked-5 : tie.Need-array-copy-out-marked-5
 array-copy-out-marked-5 c = search needs
 
--- src/pack.rt:41:9
 marked-requires-5 : tie.Need-marked-requires-5
 marked-requires-5 c κs = search needs
 
--- src/pack.rt:42:21
 array-copy-out-marked-6 : tie.Need-array-copy-out-marked-6
 array-copy-out-marked-6 c = search needs
 
--- src/pack.rt:42:9
 marked-requires-6 : tie.Need-marked-requires-6
 marked-requires-6 c κs = search needs
 
--- src/pack.rt:43:21
 array-copy-out-marked-7 : tie.Need-array-copy-out-marked-7
 array-copy-out-marked-7 c = search needs
 
--- src/pack.rt:43:9
 marked-requires-7 : tie.Need-marked-requires-7
 marked-requires-7 c κs = search needs
 
--- src/pack.rt:44:21
 array-copy-out-marked-8 : tie.Need-array-copy-out-marked-8
 array-copy-out-marked-8 c = search needs
 
--- src/pack.rt:44:9
 marked-requires-8 : tie.Need-marked-requires-8
 marked-requires-8 c κs = search needs
 
--- src/pack.rt:45:21
 array-copy-out-marked-9 : tie.Need-array-copy-out-marked-9
 array-copy-out-marked-9 c = search needs
 
--- src/pack.rt:45:9
 marked-requires-9 : tie.Need-marked-requires-9
 marked-requires-9 c κs = search needs
 
--- src/pack.rt:34:1
 returns : tie.Need-returns
 unfolding channels9
 returns c = simp (c .marked9 .ensures, c .before .before .marked8 .ensures, c .before .before .before .before .marked7 .ensures, c .before .before .before .before .before .before .marked6 .ensures, c .before .before .before .before .before .before .before .before .marked5 .ensures, c .before .before .before .before .before .before .before .before .before .before .marked4 .ensures, c .before .before .before .before .before .before .before .before .before .before .before .before .marked3 .ensures, c .before .before .before .before .before .before .before .before .before .before .before .before .before .before .marked2 .ensures, c .before .before .before .before .before .before .before .before .before .before .before .before .before .before .before .before .marked .ensures)

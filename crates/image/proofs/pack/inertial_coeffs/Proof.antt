@@ -1,11 +1,9 @@
+-- Number by number.
 use mathlib.Core.Path.{refl}
 use Rattle.image.specs.Pack.{inertial-coeffs}
 use Rattle.image.proofs.pack.inertial_coeffs.Statement.{statement}
 use Rattle.image.proofs.pack.inertial_coeffs.Tie as tie
-use Rattle.image.proofs.pack.inertial_coeffs.Reads as reads
-use Rattle.image.proofs.pack.inertial_coeffs.Lts as lts
 
--- src/pack.rt:61:1
 returns : tie.Need-returns
 unfolding inertial-coeffs
 returns c = refl

@@ -1,24 +1,18 @@
+-- Number by number.
 use Rattle.image.specs.Pack.{inertial-params}
 use borrow.Author.Needs.{needs}
 use Rattle.image.proofs.pack.inertial_params.Statement.{statement}
 use Rattle.image.proofs.pack.inertial_params.Tie as tie
-use Rattle.image.proofs.pack.inertial_params.Reads as reads
-use Rattle.image.proofs.pack.inertial_params.Lts as lts
-use Rattle.image.proofs.marks.flag.Reads as flag-reads
 
--- src/pack.rt:52:17
 flag-requires : tie.Need-flag-requires
 flag-requires c κs = search needs
 
--- src/pack.rt:52:53
 flag-requires-2 : tie.Need-flag-requires-2
 flag-requires-2 c κs = search needs
 
--- src/pack.rt:52:195
 flag-requires-3 : tie.Need-flag-requires-3
 flag-requires-3 c κs = search needs
 
--- src/pack.rt:49:1
 returns : tie.Need-returns
 unfolding inertial-params
 returns c = simp (c .flag3 .ensures, c .before .flag2 .ensures, c .before .before .flag .ensures)

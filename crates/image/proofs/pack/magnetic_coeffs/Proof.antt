@@ -1,25 +1,20 @@
+-- Number by number.
 use Rattle.image.specs.Marks.{flag}
 use Rattle.image.specs.Pack.{magnetic-coeffs}
 use borrow.Author.Needs.{needs}
 use Rattle.image.proofs.pack.magnetic_coeffs.Statement.{statement}
 use Rattle.image.proofs.pack.magnetic_coeffs.Tie as tie
-use Rattle.image.proofs.pack.magnetic_coeffs.Reads as reads
-use Rattle.image.proofs.pack.magnetic_coeffs.Lts as lts
 
--- src/pack.rt:72:30
 enum-told : tie.Need-enum-told
 enum-told c = search needs
 
--- src/pack.rt:73:28
 enum-known-lp : tie.Need-enum-known-lp
 enum-known-lp c = search needs
 
--- src/pack.rt:67:1
 returns : tie.Need-returns
 unfolding magnetic-coeffs flag
 returns c = simp (c .enum-told .given .1)
 
--- src/pack.rt:67:1
 returns-2 : tie.Need-returns-2
 unfolding magnetic-coeffs flag
 returns-2 c = simp (c .before .lp .given .1)

@@ -1,11 +1,9 @@
+-- Number by number.
 use mathlib.Core.Path.{refl}
 use Rattle.image.specs.Pack.{magnetic-params}
 use Rattle.image.proofs.pack.magnetic_params.Statement.{statement}
 use Rattle.image.proofs.pack.magnetic_params.Tie as tie
-use Rattle.image.proofs.pack.magnetic_params.Reads as reads
-use Rattle.image.proofs.pack.magnetic_params.Lts as lts
 
--- src/pack.rt:55:1
 returns : tie.Need-returns
 unfolding magnetic-params
 returns c = refl

@@ -1,25 +1,19 @@
+-- By whether the image has its length.
 use mathlib.Core.Path.{refl}
 use borrow.Author.Tests.{eq-eqb, ne-eqb}
 use borrow.Author.Needs.{needs}
 use Rattle.image.proofs.pack.pack.Statement.{statement}
 use Rattle.image.proofs.pack.pack.Tie as tie
-use Rattle.image.proofs.pack.pack.Reads as reads
-use Rattle.image.proofs.pack.pack.Lts as lts
-use Rattle.image.proofs.pack.put_all.Reads as put-all-reads
 
--- src/pack.rt:359:9
 put-all-requires : tie.Need-put-all-requires
 put-all-requires c κs = search needs
 
--- src/pack.rt:355:1
 same-length : tie.Need-same-length
 same-length c = search needs
 
--- src/pack.rt:355:1
 returns : tie.Need-returns
 returns c = simp (c .before .before .put-all .ensures, eq-eqb _ _ (c .before .before .before .before .if1 .taken)) (refl, refl)
 
--- src/pack.rt:355:1
 returns-2 : tie.Need-returns-2
 returns-2 c = simp (ne-eqb _ _ (c .if1 .left)) (refl, refl)
 

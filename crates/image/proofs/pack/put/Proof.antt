@@ -10,8 +10,6 @@ use lib.Ieee.{Float, nan}
 use Rattle.image.specs.Put.{put, put-more}
 use Rattle.image.proofs.pack.put.Statement.{statement}
 use Rattle.image.proofs.pack.put.Tie as tie
-use Rattle.image.proofs.pack.put.Reads as reads
-use Rattle.image.proofs.pack.put.Lts as lts
 
 abbrev Inv-loop : tie.InvT-loop
 Inv-loop image₀ at xs i₀ image i = (image ≡ put (take i xs) image₀ at) × (i ≤ length xs) × (length image ≡ length image₀)

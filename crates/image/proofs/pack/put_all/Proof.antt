@@ -1,45 +1,30 @@
+-- The six parts one after the other.
 use Rattle.image.specs.Image.{put-pack}
 use borrow.Author.Needs.{needs}
 use Rattle.image.proofs.pack.put_all.Statement.{statement}
 use Rattle.image.proofs.pack.put_all.Tie as tie
-use Rattle.image.proofs.pack.put_all.Reads as reads
-use Rattle.image.proofs.pack.put_all.Lts as lts
-use Rattle.image.proofs.pack.put_bias.Reads as put-bias-reads
-use Rattle.image.proofs.pack.put_coeffs.Reads as put-coeffs-reads
-use Rattle.image.proofs.pack.put_inclination.Reads as put-inclination-reads
-use Rattle.image.proofs.pack.put_magnetic_state.Reads as put-magnetic-state-reads
-use Rattle.image.proofs.pack.put_params.Reads as put-params-reads
-use Rattle.image.proofs.pack.put_rest.Reads as put-rest-reads
 
--- src/pack.rt:346:5
 put-params-requires : tie.Need-put-params-requires
 put-params-requires c κs = search needs
 
--- src/pack.rt:347:5
 put-coeffs-requires : tie.Need-put-coeffs-requires
 put-coeffs-requires c κs = search needs
 
--- src/pack.rt:348:5
 put-inclination-requires : tie.Need-put-inclination-requires
 put-inclination-requires c κs = search needs
 
--- src/pack.rt:349:5
 put-bias-requires : tie.Need-put-bias-requires
 put-bias-requires c κs = search needs
 
--- src/pack.rt:350:5
 put-rest-requires : tie.Need-put-rest-requires
 put-rest-requires c κs = search needs
 
--- src/pack.rt:351:5
 put-magnetic-state-requires : tie.Need-put-magnetic-state-requires
 put-magnetic-state-requires c κs = search needs
 
--- src/pack.rt:331:1
 same-length : tie.Need-same-length
 same-length c = search needs
 
--- src/pack.rt:331:1
 returns : tie.Need-returns
 returns c =
     let s = c .before .before .before .before .before .before .before .before .before .before .before .before .before .before .before .before .before .before .before .before .before .before .before .before .before .before .before .before .before .before .before .before .before .before .before .before in

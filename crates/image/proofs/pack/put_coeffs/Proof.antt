@@ -1,43 +1,31 @@
+-- One run of numbers after another.
 use borrow.Author.Needs.{needs}
 use Rattle.image.specs.Pack.{all-coeffs, inertial-coeffs}
 use Rattle.image.specs.Put.{put-put}
 use Rattle.image.proofs.pack.put_coeffs.Statement.{statement}
 use Rattle.image.proofs.pack.put_coeffs.Tie as tie
-use Rattle.image.proofs.pack.put_coeffs.Reads as reads
-use Rattle.image.proofs.pack.put_coeffs.Lts as lts
-use Rattle.image.proofs.pack.inertial_coeffs.Reads as inertial-coeffs-reads
-use Rattle.image.proofs.pack.magnetic_coeffs.Reads as magnetic-coeffs-reads
-use Rattle.image.proofs.pack.put.Reads as put-reads
 
--- src/pack.rt:272:20
 inertial-coeffs-requires : tie.Need-inertial-coeffs-requires
 inertial-coeffs-requires c κs = search needs
 
--- src/pack.rt:273:20
 magnetic-coeffs-requires : tie.Need-magnetic-coeffs-requires
 magnetic-coeffs-requires c κs = search needs
 
--- src/pack.rt:274:20
 slice-aggregate-put : tie.Need-slice-aggregate-put
 slice-aggregate-put c = search needs
 
--- src/pack.rt:274:5
 put-requires : tie.Need-put-requires
 put-requires c κs = search needs
 
--- src/pack.rt:275:20
 slice-aggregate-put-2 : tie.Need-slice-aggregate-put-2
 slice-aggregate-put-2 c = search needs
 
--- src/pack.rt:275:5
 put-requires-2 : tie.Need-put-requires-2
 put-requires-2 c κs = search needs
 
--- src/pack.rt:268:1
 same-length : tie.Need-same-length
 same-length c = search needs
 
--- src/pack.rt:268:1
 returns : tie.Need-returns
 unfolding all-coeffs inertial-coeffs
 returns c =

@@ -1,43 +1,31 @@
+-- One run of numbers after another.
 use borrow.Author.Needs.{needs}
 use Rattle.image.specs.Pack.{all-inclination, inclination}
 use Rattle.image.specs.Put.{put-put}
 use Rattle.image.proofs.pack.put_inclination.Statement.{statement}
 use Rattle.image.proofs.pack.put_inclination.Tie as tie
-use Rattle.image.proofs.pack.put_inclination.Reads as reads
-use Rattle.image.proofs.pack.put_inclination.Lts as lts
-use Rattle.image.proofs.pack.channels3.Reads as channels3-reads
-use Rattle.image.proofs.pack.inclination.Reads as inclination-reads
-use Rattle.image.proofs.pack.put.Reads as put-reads
 
--- src/pack.rt:282:19
 inclination-requires : tie.Need-inclination-requires
 inclination-requires c κs = search needs
 
--- src/pack.rt:284:18
 channels3-requires : tie.Need-channels3-requires
 channels3-requires c κs = search needs
 
--- src/pack.rt:285:20
 slice-aggregate-put : tie.Need-slice-aggregate-put
 slice-aggregate-put c = search needs
 
--- src/pack.rt:285:5
 put-requires : tie.Need-put-requires
 put-requires c κs = search needs
 
--- src/pack.rt:286:20
 slice-aggregate-put-2 : tie.Need-slice-aggregate-put-2
 slice-aggregate-put-2 c = search needs
 
--- src/pack.rt:286:5
 put-requires-2 : tie.Need-put-requires-2
 put-requires-2 c κs = search needs
 
--- src/pack.rt:278:1
 same-length : tie.Need-same-length
 same-length c = search needs
 
--- src/pack.rt:278:1
 returns : tie.Need-returns
 unfolding all-inclination inclination
 returns c =

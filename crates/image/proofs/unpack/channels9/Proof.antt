@@ -1,80 +1,60 @@
+-- Number by number.
 use Rattle.image.specs.Pack.{channels9}
 use borrow.Author.Needs.{needs}
 use Rattle.image.proofs.unpack.channels9.Statement.{statement}
 use Rattle.image.proofs.unpack.channels9.Tie as tie
-use Rattle.image.proofs.unpack.channels9.Reads as reads
-use Rattle.image.proofs.unpack.channels9.Lts as lts
-use Rattle.image.proofs.unpack.channel_at.Reads as channel-at-reads
 
--- src/unpack.rt:123:9
 channel-at-requires : tie.Need-channel-at-requires
 channel-at-requires c κs = search needs
 
--- src/unpack.rt:124:28
 add-channel-at : tie.Need-add-channel-at
 add-channel-at c = search needs
 
--- src/unpack.rt:124:9
 channel-at-requires-2 : tie.Need-channel-at-requires-2
 channel-at-requires-2 c κs = search needs
 
--- src/unpack.rt:125:28
 add-channel-at-2 : tie.Need-add-channel-at-2
 add-channel-at-2 c = search needs
 
--- src/unpack.rt:125:9
 channel-at-requires-3 : tie.Need-channel-at-requires-3
 channel-at-requires-3 c κs = search needs
 
--- src/unpack.rt:126:28
 add-channel-at-3 : tie.Need-add-channel-at-3
 add-channel-at-3 c = search needs
 
--- src/unpack.rt:126:9
 channel-at-requires-4 : tie.Need-channel-at-requires-4
 channel-at-requires-4 c κs = search needs
 
--- src/unpack.rt:127:28
 add-channel-at-4 : tie.Need-add-channel-at-4
 add-channel-at-4 c = search needs
 
--- src/unpack.rt:127:9
 channel-at-requires-5 : tie.Need-channel-at-requires-5
 channel-at-requires-5 c κs = search needs
 
--- src/unpack.rt:128:28
 add-channel-at-5 : tie.Need-add-channel-at-5
 add-channel-at-5 c = search needs
 
--- src/unpack.rt:128:9
 channel-at-requires-6 : tie.Need-channel-at-requires-6
 channel-at-requires-6 c κs = search needs
 
--- src/unpack.rt:129:28
 add-channel-at-6 : tie.Need-add-channel-at-6
 add-channel-at-6 c = search needs
 
--- src/unpack.rt:129:9
 channel-at-requires-7 : tie.Need-channel-at-requires-7
 channel-at-requires-7 c κs = search needs
 
--- src/unpack.rt:130:28
 add-channel-at-7 : tie.Need-add-channel-at-7
 add-channel-at-7 c = search needs
 
--- src/unpack.rt:130:9
 channel-at-requires-8 : tie.Need-channel-at-requires-8
 channel-at-requires-8 c κs = search needs
 
--- src/unpack.rt:131:28
 add-channel-at-8 : tie.Need-add-channel-at-8
 add-channel-at-8 c = search needs
 
--- src/unpack.rt:131:9
 channel-at-requires-9 : tie.Need-channel-at-requires-9
 channel-at-requires-9 c κs = search needs
 
--- src/unpack.rt:119:1
 returns : tie.Need-returns
 unfolding channels9
 returns c = simp (c .channel-at9 .ensures, c .before .channel-at8 .ensures, c .before .before .channel-at7 .ensures, c .before .before .before .channel-at6 .ensures, c .before .before .before .before .channel-at5 .ensures, c .before .before .before .before .before .channel-at4 .ensures, c .before .before .before .before .before .before .channel-at3 .ensures, c .before .before .before .before .before .before .before .channel-at2 .ensures, c .before .before .before .before .before .before .before .before .channel-at .ensures)

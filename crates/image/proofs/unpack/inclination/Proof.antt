@@ -1,34 +1,24 @@
+-- Number by number.
 use Rattle.image.specs.Unpack.{inclination}
 use borrow.Author.Needs.{needs}
 use Rattle.image.proofs.unpack.inclination.Statement.{statement}
 use Rattle.image.proofs.unpack.inclination.Tie as tie
-use Rattle.image.proofs.unpack.inclination.Reads as reads
-use Rattle.image.proofs.unpack.inclination.Lts as lts
-use Rattle.image.proofs.unpack.channels3.Reads as channels3-reads
-use Rattle.image.proofs.unpack.quaternion.Reads as quaternion-reads
-use Rattle.image.proofs.unpack.vector.Reads as vector-reads
 
--- src/unpack.rt:223:9
 quaternion-requires : tie.Need-quaternion-requires
 quaternion-requires c κs = search needs
 
--- src/unpack.rt:224:9
 quaternion-requires-2 : tie.Need-quaternion-requires-2
 quaternion-requires-2 c κs = search needs
 
--- src/unpack.rt:225:9
 vector-requires : tie.Need-vector-requires
 vector-requires c κs = search needs
 
--- src/unpack.rt:226:9
 channels3-requires : tie.Need-channels3-requires
 channels3-requires c κs = search needs
 
--- src/unpack.rt:232:37
 shared-slice-read-t7 : tie.Need-shared-slice-read-t7
 shared-slice-read-t7 c = search needs
 
--- src/unpack.rt:219:1
 returns : tie.Need-returns
 unfolding inclination
 returns c = simp (c .before .channels3 .ensures, c .before .before .vector .ensures, c .before .before .before .quaternion2 .ensures, c .before .before .before .before .quaternion .ensures)

@@ -1,28 +1,21 @@
+-- Number by number.
 use Rattle.image.specs.Unpack.{magnetic-coeffs}
 use borrow.Author.Needs.{needs}
 use Rattle.image.proofs.unpack.magnetic_coeffs.Statement.{statement}
 use Rattle.image.proofs.unpack.magnetic_coeffs.Tie as tie
-use Rattle.image.proofs.unpack.magnetic_coeffs.Reads as reads
-use Rattle.image.proofs.unpack.magnetic_coeffs.Lts as lts
-use Rattle.image.proofs.unpack.smoothing.Reads as smoothing-reads
 
--- src/unpack.rt:210:9
 smoothing-requires : tie.Need-smoothing-requires
 smoothing-requires c κs = search needs
 
--- src/unpack.rt:212:17
 shared-slice-read-t4 : tie.Need-shared-slice-read-t4
 shared-slice-read-t4 c = search needs
 
--- src/unpack.rt:213:16
 shared-slice-read-t6 : tie.Need-shared-slice-read-t6
 shared-slice-read-t6 c = search needs
 
--- src/unpack.rt:214:20
 shared-slice-read-t8 : tie.Need-shared-slice-read-t8
 shared-slice-read-t8 c = search needs
 
--- src/unpack.rt:206:1
 returns : tie.Need-returns
 unfolding magnetic-coeffs
 returns c = simp (c .before .before .before .smoothing .ensures)

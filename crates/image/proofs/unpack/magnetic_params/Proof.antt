@@ -1,56 +1,43 @@
+-- Number by number.
 use mathlib.Core.Path.{refl}
 use Rattle.image.specs.Unpack.{magnetic-params}
 use borrow.Author.Needs.{needs}
 use Rattle.image.proofs.unpack.magnetic_params.Statement.{statement}
 use Rattle.image.proofs.unpack.magnetic_params.Tie as tie
-use Rattle.image.proofs.unpack.magnetic_params.Reads as reads
-use Rattle.image.proofs.unpack.magnetic_params.Lts as lts
 
--- src/unpack.rt:168:18
 shared-slice-read-t3 : tie.Need-shared-slice-read-t3
 shared-slice-read-t3 c = search needs
 
--- src/unpack.rt:169:26
 shared-slice-read-t5 : tie.Need-shared-slice-read-t5
 shared-slice-read-t5 c = search needs
 
--- src/unpack.rt:170:22
 shared-slice-read-t7 : tie.Need-shared-slice-read-t7
 shared-slice-read-t7 c = search needs
 
--- src/unpack.rt:171:22
 shared-slice-read-t9 : tie.Need-shared-slice-read-t9
 shared-slice-read-t9 c = search needs
 
--- src/unpack.rt:172:21
 shared-slice-read-t11 : tie.Need-shared-slice-read-t11
 shared-slice-read-t11 c = search needs
 
--- src/unpack.rt:173:23
 shared-slice-read-t13 : tie.Need-shared-slice-read-t13
 shared-slice-read-t13 c = search needs
 
--- src/unpack.rt:174:29
 shared-slice-read-t15 : tie.Need-shared-slice-read-t15
 shared-slice-read-t15 c = search needs
 
--- src/unpack.rt:175:26
 shared-slice-read-t17 : tie.Need-shared-slice-read-t17
 shared-slice-read-t17 c = search needs
 
--- src/unpack.rt:176:35
 shared-slice-read-t19 : tie.Need-shared-slice-read-t19
 shared-slice-read-t19 c = search needs
 
--- src/unpack.rt:177:33
 shared-slice-read-t21 : tie.Need-shared-slice-read-t21
 shared-slice-read-t21 c = search needs
 
--- src/unpack.rt:178:31
 shared-slice-read-t23 : tie.Need-shared-slice-read-t23
 shared-slice-read-t23 c = search needs
 
--- src/unpack.rt:163:1
 returns : tie.Need-returns
 unfolding magnetic-params
 returns c = refl

@@ -1,77 +1,57 @@
+-- Number by number.
 use Rattle.image.specs.Unpack.{magnetic-state}
 use borrow.Author.Needs.{needs}
 use Rattle.image.proofs.unpack.magnetic_state.Statement.{statement}
 use Rattle.image.proofs.unpack.magnetic_state.Tie as tie
-use Rattle.image.proofs.unpack.magnetic_state.Reads as reads
-use Rattle.image.proofs.unpack.magnetic_state.Lts as lts
-use Rattle.image.proofs.marks.on.Reads as on-reads
-use Rattle.image.proofs.unpack.channels2.Reads as channels2-reads
 
--- src/unpack.rt:277:16
 shared-slice-read-t7 : tie.Need-shared-slice-read-t7
 shared-slice-read-t7 c = search needs
 
--- src/unpack.rt:278:21
 shared-slice-read-t9 : tie.Need-shared-slice-read-t9
 shared-slice-read-t9 c = search needs
 
--- src/unpack.rt:279:29
 shared-slice-read-on : tie.Need-shared-slice-read-on
 shared-slice-read-on c = search needs
 
--- src/unpack.rt:280:37
 shared-slice-read-t13 : tie.Need-shared-slice-read-t13
 shared-slice-read-t13 c = search needs
 
--- src/unpack.rt:282:32
 shared-slice-read-t7-2 : tie.Need-shared-slice-read-t7-2
 shared-slice-read-t7-2 c = search needs
 
--- src/unpack.rt:282:40
 shared-slice-read-t13-2 : tie.Need-shared-slice-read-t13-2
 shared-slice-read-t13-2 c = search needs
 
--- src/unpack.rt:283:9
 channels2-requires : tie.Need-channels2-requires
 channels2-requires c κs = search needs
 
--- src/unpack.rt:285:31
 shared-slice-read-on-2 : tie.Need-shared-slice-read-on-2
 shared-slice-read-on-2 c = search needs
 
--- src/unpack.rt:285:28
 on-requires : tie.Need-on-requires
 on-requires c κs = search needs
 
--- src/unpack.rt:286:23
 shared-slice-read-t13-3 : tie.Need-shared-slice-read-t13-3
 shared-slice-read-t13-3 c = search needs
 
--- src/unpack.rt:287:22
 shared-slice-read-t7-3 : tie.Need-shared-slice-read-t7-3
 shared-slice-read-t7-3 c = search needs
 
--- src/unpack.rt:288:28
 shared-slice-read-t9-2 : tie.Need-shared-slice-read-t9-2
 shared-slice-read-t9-2 c = search needs
 
--- src/unpack.rt:289:23
 shared-slice-read-t22 : tie.Need-shared-slice-read-t22
 shared-slice-read-t22 c = search needs
 
--- src/unpack.rt:290:29
 shared-slice-read-t24 : tie.Need-shared-slice-read-t24
 shared-slice-read-t24 c = search needs
 
--- src/unpack.rt:291:28
 shared-slice-read-t26 : tie.Need-shared-slice-read-t26
 shared-slice-read-t26 c = search needs
 
--- src/unpack.rt:292:26
 shared-slice-read-t28 : tie.Need-shared-slice-read-t28
 shared-slice-read-t28 c = search needs
 
--- src/unpack.rt:272:1
 returns : tie.Need-returns
 unfolding magnetic-state
 returns c = simp (c .before .before .before .before .before .before .before .on .ensures, c .before .before .before .before .before .before .before .before .before .channels2 .ensures)

@@ -1,50 +1,36 @@
+-- Number by number.
 use Rattle.image.specs.Unpack.{rest}
 use borrow.Author.Needs.{needs}
 use Rattle.image.proofs.unpack.rest.Statement.{statement}
 use Rattle.image.proofs.unpack.rest.Tie as tie
-use Rattle.image.proofs.unpack.rest.Reads as reads
-use Rattle.image.proofs.unpack.rest.Lts as lts
-use Rattle.image.proofs.marks.on.Reads as on-reads
-use Rattle.image.proofs.unpack.channels3.Reads as channels3-reads
-use Rattle.image.proofs.unpack.vector.Reads as vector-reads
 
--- src/unpack.rt:256:51
 shared-slice-read-on : tie.Need-shared-slice-read-on
 shared-slice-read-on c = search needs
 
--- src/unpack.rt:256:59
 shared-slice-read-t10 : tie.Need-shared-slice-read-t10
 shared-slice-read-t10 c = search needs
 
--- src/unpack.rt:257:9
 vector-requires : tie.Need-vector-requires
 vector-requires c κs = search needs
 
--- src/unpack.rt:258:9
 channels3-requires : tie.Need-channels3-requires
 channels3-requires c κs = search needs
 
--- src/unpack.rt:259:9
 vector-requires-2 : tie.Need-vector-requires-2
 vector-requires-2 c κs = search needs
 
--- src/unpack.rt:260:9
 channels3-requires-2 : tie.Need-channels3-requires-2
 channels3-requires-2 c κs = search needs
 
--- src/unpack.rt:262:27
 shared-slice-read-on-2 : tie.Need-shared-slice-read-on-2
 shared-slice-read-on-2 c = search needs
 
--- src/unpack.rt:262:24
 on-requires : tie.Need-on-requires
 on-requires c κs = search needs
 
--- src/unpack.rt:264:17
 shared-slice-read-t10-2 : tie.Need-shared-slice-read-t10-2
 shared-slice-read-t10-2 c = search needs
 
--- src/unpack.rt:252:1
 returns : tie.Need-returns
 unfolding rest
 returns c = simp (c .before .on .ensures, c .before .before .before .channels32 .ensures, c .before .before .before .before .vector2 .ensures, c .before .before .before .before .before .channels3 .ensures, c .before .before .before .before .before .before .vector .ensures)
