@@ -19,7 +19,8 @@
  *   5 a matrix has no inverse
  *   6 a number to be stored would not be finite
  *   8 an array has another length than it should
- * After 1, 2, 3, 5, 6 and 8 the image and `out` are as they were. */
+ * After 1, 2, 3, 5, 6 and 8 the image and `out` are as they were. (An image that this library did not
+ * make is first read as docs/FIRMWARE.md says, and after 1 to 6 is the image of what was read.) */
 #ifndef SAMBIGHJONE_H
 #define SAMBIGHJONE_H
 
