@@ -13,6 +13,7 @@ use lib.Ieee.{Float, nan, inf, fin, binary64, ofBits, add, sub, mul, div, neg, l
 use lib.Ieee.Scale.{finite}
 use lib.Ieee.Positive.{num, den}
 use Rattle.floats.specs.Notation.{Rounded, rounded}
+use Rattle.floats.specs.Decimals.{ten-thousand, ten-thousandth}
 use Rattle.floats.specs.Tests.{both}
 use Rattle.floats.specs.Order.{le-tr, Within, within-finite}
 use Rattle.floats.specs.Products.{mul-mono, mul-sym}
@@ -27,12 +28,11 @@ use Rattle.filters.specs.Coefficients.{𝟐, SQRT-2, angle, coeffs, filt
 use Rattle.filters.specs.declared.coeffs.Coeffs.{Coeffs}
 open Rounded (rounded binary64) using (_⊕_, _⊖_, _⊗_, _⊘_)
 
--- 0.0001 and 10000
 abbrev pub LEAST : Float
-LEAST = ofBits binary64 0x3f1a_36e2_eb1c_432d
+LEAST = ten-thousandth binary64
 
 abbrev pub MOST : Float
-MOST = ofBits binary64 0x40c3_8800_0000_0000
+MOST = ten-thousand binary64
 
 abbrev pub Interval : Float → Type 0
 Interval ts = Within ts LEAST 𝟏

@@ -2,7 +2,8 @@
 use mathlib.Core.Bool.{Bool, true, cond, _&&_, _||_}
 use lib.Ieee.{Float, Format, neg, lt, le}
 use lib.Ieee.Scale as scale
-use Rattle.floats.specs.Notation.{Rounded, rounded, constant, zero, half, one, two}
+use Rattle.floats.specs.Notation.{Rounded, rounded, zero, half, one, two}
+use Rattle.floats.specs.Decimals.{millionth}
 use Rattle.numbers.specs.Root.{root}
 use Rattle.numbers.specs.Arcs.{acos}
 use Rattle.algebra.specs.Vectors.{finite, normalize}
@@ -24,10 +25,6 @@ use Rattle.inertial.specs.declared.types.Inertial.{Inertial}
 use Rattle.inertial.specs.declared.gyr.TriedRest.{TriedRest}
 use Rattle.inertial.specs.declared.acc.TriedInclination.{TriedInclination}
 use Rattle.inertial.specs.declared.kalman.TriedBias.{TriedBias}
-
--- the value nearest to 1e-6
-abbrev pub least-q-w : Format → Float
-least-q-w = constant 0x3586_37bd 0x3eb0_c6f7_a0b5_ed8d
 
 -- the numbers that a sample stores in the rest group and in the inclination
 unfoldable pub finite-acc-rest : Rest → Bool
@@ -107,7 +104,7 @@ module _ (w : Format) where
   unfoldable pub acc-correction : Vector → Quaternion
   acc-correction v =
       let q-w = root w ((v .2 ⊕ one w) ⊘ two w) in
-      cond (lt (least-q-w w) q-w)
+      cond (lt (millionth w) q-w)
       (quaternion q-w (half w ⊗ v .1 ⊘ q-w) (neg (half w) ⊗ v .0 ⊘ q-w) (zero w))
       (quaternion (zero w) (one w) (zero w) (one w))
 

@@ -2,6 +2,7 @@
 use lib.Dec.{T}
 use lib.Ieee.{Float, nan, inf, fin, binary64, ofBits, le}
 use lib.Ieee.Scale.{finite}
+use Rattle.floats.specs.Decimals.{hundred, tenth, ten-billionth}
 use Rattle.floats.specs.Definitions.{larger}
 use Rattle.floats.specs.Tests.{both}
 use Rattle.floats.specs.Order.{le-tr, le→number, Within, within-finite}
@@ -18,7 +19,7 @@ use Rattle.limits.specs.Limits.{sigma-limit, least-forgetting-time, least-thres
 use Rattle.inertial.specs.Gyr.{finite-gyr-rest}
 use Rattle.inertial.specs.Kalman.{finite-bias}
 use Rattle.inertial.specs.Acc.{finite-acc-rest, finite-inclination}
-use Rattle.inertial.specs.Setup.{hundred, tenth, least-factor, taken, rest-params-taken, bias-params-taken, bias-coefficients, setup, fresh-rest, fresh-state, new}
+use Rattle.inertial.specs.Setup.{taken, rest-params-taken, bias-params-taken, bias-coefficients, setup, fresh-rest, fresh-state, new}
 use Rattle.inertial.specs.declared.types.InertialParams.{InertialParams}
 use Rattle.inertial.specs.declared.types.BiasParams.{BiasParams}
 use Rattle.inertial.specs.AllFinite.{finite-rest-params, finite-bias-params, finite-params, finite-bias-coefficients, finite-coefficients, finite-state, all-finite}
@@ -38,7 +39,7 @@ state-finite (fin s m e) h = tt
 
 -- ---- the numbers of the bias
 abbrev FACTOR : Float
-FACTOR = least-factor binary64
+FACTOR = ten-billionth binary64
 
 abbrev square· : Expr → Expr
 square· e = mul· e e

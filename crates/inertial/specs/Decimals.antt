@@ -1,32 +1,10 @@
--- The constants and the house settings of the inertial half by their decimals, in either format, and the numbers of the bias that these give.
+-- The house settings of the inertial half by their decimals, in either format, and the numbers of the bias that these give.
 use mathlib.Core.Path.{_≡_, refl}
 use mathlib.Core.Bool.{true}
-use mathlib.Core.List.{List, [], _∷_}
-use Prim.Native.Nat.{_^_}
 use lib.Ieee.{Float, Format, binary32, binary64, add, mul, div, ofInt, round, ofBits}
-use Rattle.floats.specs.Decimals.{decimal, Row, Nearest}
+use Rattle.floats.specs.Decimals.{decimal}
 use Rattle.algebra.specs.Values.{whole}
-use Rattle.inertial.specs.Gyr.{half-turn}
-use Rattle.inertial.specs.Acc.{least-q-w}
-use Rattle.inertial.specs.Setup.{three, one-and-a-half, hundred, tenth, ten-thousandth, three-hundredths, least-factor, house, bias-coefficients}
-
-abbrev rows : List Row
-rows =
-    (three, 3, 1)
-    ∷ (one-and-a-half, 15, 10)
-    ∷ (hundred, 100, 1)
-    ∷ (tenth, 1, 10)
-    ∷ (ten-thousandth, 1, 10000)
-    ∷ (three-hundredths, 3, 100)
-    ∷ (least-factor, 1, 10 ^ 10)
-    ∷ (half-turn, 180, 1)
-    ∷ (least-q-w, 1, 10 ^ 6)
-    ∷ []
-
-pub constants-are : (w : Format) → Nearest rows w
-unfolding round ofBits
-constants-are binary32 = refl
-constants-are binary64 = refl
+use Rattle.inertial.specs.Setup.{house, bias-coefficients}
 
 -- "`tau_acc` 3, .., all three switches on, `bias_sigma_init` 0.5, .."
 pub house-is : (w : Format) → house w ≡ record {

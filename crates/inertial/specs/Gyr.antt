@@ -2,7 +2,8 @@
 use mathlib.Core.Bool.{Bool, true, false, cond, _&&_, _||_}
 use lib.Ieee.{Float, Format, lt, le}
 use lib.Ieee.Scale as scale
-use Rattle.floats.specs.Notation.{Rounded, rounded, constant, zero, two, pi}
+use Rattle.floats.specs.Notation.{Rounded, rounded, zero, two, pi}
+use Rattle.floats.specs.Decimals.{half-turn}
 use Rattle.floats.specs.Definitions.{magnitude}
 use Rattle.numbers.specs.Sines.{sin, cos}
 use Rattle.algebra.specs.Vectors.{epsilon, vector, both, norm, finite}
@@ -21,9 +22,6 @@ use Rattle.inertial.specs.declared.types.RestParams.{RestParams}
 use Rattle.inertial.specs.declared.types.Inertial.{Inertial}
 use Rattle.inertial.specs.declared.gyr.TriedRest.{TriedRest}
 use Rattle.inertial.specs.declared.gyr.TriedQuat.{TriedQuat}
-
-abbrev pub half-turn : Format → Float
-half-turn = constant 0x4334_0000 0x4066_8000_0000_0000
 
 -- the numbers that a gyro sample stores in the rest group
 unfoldable pub finite-gyr-rest : Rest → Bool

@@ -3,6 +3,7 @@ use mathlib.Core.Bool.{Bool, true, cond, _&&_, Bool·beq}
 use lib.ListN.{replicate}
 use lib.Ieee.{Float, Format, eq}
 use Rattle.floats.specs.Notation.{Rounded, rounded, pi}
+use Rattle.floats.specs.Decimals.{hundred, half-turn}
 use Rattle.floats.specs.Definitions.{magnitude, larger, smaller}
 use Rattle.numbers.specs.Root.{root}
 use Rattle.algebra.specs.Quaternions.{times}
@@ -18,8 +19,8 @@ use Rattle.filters.specs.declared.coeffs.Coeffs.{Coeffs}
 use Rattle.limits.specs.Answers.{Told, told}
 use Rattle.limits.specs.Limits.{tau-taken, threshold-taken, sigma-taken, bias-taken}
 use Rattle.inertial.specs.Told.{state-of, with-state, if-finite}
-use Rattle.inertial.specs.Gyr.{square, half-turn, radians}
-use Rattle.inertial.specs.Setup.{hundred, fresh-rest, fresh-state}
+use Rattle.inertial.specs.Gyr.{square, radians}
+use Rattle.inertial.specs.Setup.{fresh-rest, fresh-state}
 use Rattle.inertial.specs.declared.types.Bias.{Bias}
 use Rattle.inertial.specs.declared.types.BiasParams.{BiasParams}
 use Rattle.inertial.specs.declared.types.Deviations.{Deviations}

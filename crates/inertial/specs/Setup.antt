@@ -2,7 +2,8 @@
 use mathlib.Core.Bool.{Bool, true, false, _&&_}
 use lib.ListN.{replicate}
 use lib.Ieee.{Float, Format}
-use Rattle.floats.specs.Notation.{Rounded, rounded, constant, zero, half, two}
+use Rattle.floats.specs.Notation.{Rounded, rounded, zero, half, two}
+use Rattle.floats.specs.Decimals.{three, hundred, one-and-a-half, tenth, three-hundredths, ten-thousandth, ten-billionth}
 use Rattle.floats.specs.Definitions.{larger}
 use Rattle.algebra.specs.Vectors.{vector}
 use Rattle.algebra.specs.Quaternions.{identity}
@@ -19,28 +20,6 @@ use Rattle.inertial.specs.declared.types.InertialParams.{InertialParams}
 use Rattle.inertial.specs.declared.types.InertialState.{InertialState}
 use Rattle.inertial.specs.declared.types.Rest.{Rest}
 use Rattle.inertial.specs.declared.types.RestParams.{RestParams}
-
--- the values nearest to 3, 1.5, 100, 0.1, 0.0001, 0.03 and 1e-10
-abbrev pub three : Format → Float
-three = constant 0x4040_0000 0x4008_0000_0000_0000
-
-abbrev pub one-and-a-half : Format → Float
-one-and-a-half = constant 0x3fc0_0000 0x3ff8_0000_0000_0000
-
-abbrev pub hundred : Format → Float
-hundred = constant 0x42c8_0000 0x4059_0000_0000_0000
-
-abbrev pub tenth : Format → Float
-tenth = constant 0x3dcc_cccd 0x3fb9_9999_9999_999a
-
-abbrev pub ten-thousandth : Format → Float
-ten-thousandth = constant 0x38d1_b717 0x3f1a_36e2_eb1c_432d
-
-abbrev pub three-hundredths : Format → Float
-three-hundredths = constant 0x3cf5_c28f 0x3f9e_b851_eb85_1eb8
-
-abbrev pub least-factor : Format → Float
-least-factor = constant 0x2edb_e6ff 0x3ddb_7cdf_d9d7_bdbb
 
 module _ (w : Format) where
   open Rounded (rounded w) using (_⊕_, _⊖_, _⊗_, _⊘_)
@@ -101,7 +80,7 @@ module _ (w : Format) where
         «bias_p0» = square w (p .«bias_sigma_init» ⊗ hundred w);
         «bias_v» = bias-v;
         «bias_motion_w» = bias-motion-w;
-        «bias_vertical_w» = bias-motion-w ⊘ larger (p .«bias_vertical_forgetting_factor») (least-factor w);
+        «bias_vertical_w» = bias-motion-w ⊘ larger (p .«bias_vertical_forgetting_factor») (ten-billionth w);
         «bias_rest_w» = square w p-rest ⊘ bias-v ⊕ p-rest;
       }
 

@@ -4,63 +4,64 @@ use mathlib.Core.Bool.{Bool, _&&_, _||_, false}
 use mathlib.Core.List.{List, [], _∷_, map}
 use Prim.Native.Nat.{ℕ}
 use lib.Ieee.{Float, Format, binary32, binary64, neg, le, eq, round, ofBits}
-use Rattle.floats.specs.Notation.{constant, zero, one}
+use Rattle.floats.specs.Notation.{zero, one, two}
+use Rattle.floats.specs.Decimals.{decimal, ten, ninety, hundred, half-turn, thousand, ten-thousand, million, two-million, one-point-six, tenth, ten-thousandth}
 use Rattle.algebra.specs.declared.vector.Vector.{Vector}
 
 -- ---- the limits
 abbrev pub gyr-limit : Format → Float
-gyr-limit = constant 0x42c8_0000 0x4059_0000_0000_0000
+gyr-limit = hundred
 
 abbrev pub acc-limit : Format → Float
-acc-limit = constant 0x447a_0000 0x408f_4000_0000_0000
+acc-limit = thousand
 
 abbrev pub mag-limit : Format → Float
-mag-limit = constant 0x4974_2400 0x412e_8480_0000_0000
+mag-limit = million
 
 abbrev pub shortest-interval : Format → Float
-shortest-interval = constant 0x38d1_b717 0x3f1a_36e2_eb1c_432d
+shortest-interval = ten-thousandth
 
 abbrev pub longest-interval : Format → Float
 longest-interval = one
 
 abbrev pub longest : Format → Float
-longest = constant 0x461c_4000 0x40c3_8800_0000_0000
+longest = ten-thousand
 
 abbrev pub least-tau : Format → Float
-least-tau = constant 0x38d1_b717 0x3f1a_36e2_eb1c_432d
+least-tau = ten-thousandth
 
 abbrev pub sigma-limit : Format → Float
-sigma-limit = constant 0x42c8_0000 0x4059_0000_0000_0000
+sigma-limit = hundred
 
 abbrev pub least-forgetting-time : Format → Float
-least-forgetting-time = constant 0x3dcc_cccd 0x3fb9_9999_9999_999a
+least-forgetting-time = tenth
 
 abbrev pub least-threshold : Format → Float
-least-threshold = constant 0x38d1_b717 0x3f1a_36e2_eb1c_432d
+least-threshold = ten-thousandth
 
 abbrev pub threshold-limit : Format → Float
-threshold-limit = constant 0x42b4_0000 0x4056_8000_0000_0000
+threshold-limit = ninety
 
 abbrev pub norm-threshold-limit : Format → Float
-norm-threshold-limit = constant 0x4120_0000 0x4024_0000_0000_0000
+norm-threshold-limit = ten
 
 abbrev pub dip-threshold-limit : Format → Float
-dip-threshold-limit = constant 0x4334_0000 0x4066_8000_0000_0000
+dip-threshold-limit = half-turn
 
 abbrev pub min-gyr-limit : Format → Float
-min-gyr-limit = constant 0x447a_0000 0x408f_4000_0000_0000
+min-gyr-limit = thousand
 
 abbrev pub rejection-factor-limit : Format → Float
-rejection-factor-limit = constant 0x447a_0000 0x408f_4000_0000_0000
+rejection-factor-limit = thousand
 
 abbrev pub bias-limit : Format → Float
-bias-limit = constant 0x4000_0000 0x4000_0000_0000_0000
+bias-limit = two
 
 abbrev pub ref-norm-limit : Format → Float
-ref-norm-limit = constant 0x49f4_2400 0x413e_8480_0000_0000
+ref-norm-limit = two-million
 
 abbrev pub ref-dip-limit : Format → Float
-ref-dip-limit = constant 0x3fcc_cccd 0x3ff9_9999_9999_999a
+ref-dip-limit = one-point-six
 
 -- ---- the tests
 abbrev pub within : Float → Float → Float → Bool
@@ -180,7 +181,7 @@ decimals =
     ∷ (16, 10)
     ∷ []
 
-pub limits-are : (w : Format) → map (λ (c : Format → Float). c w) limits ≡ map (λ (d : ℕ × ℕ). round w false (d .0) (d .1)) decimals
+pub limits-are : (w : Format) → map (λ (c : Format → Float). c w) limits ≡ map (λ (d : ℕ × ℕ). decimal w (d .0) (d .1)) decimals
 unfolding round ofBits
 limits-are binary32 = refl
 limits-are binary64 = refl

@@ -4,7 +4,8 @@ use mathlib.Core.List.{List, [], _∷_}
 use lib.ListN.{getD}
 use lib.Ieee.{Float, nan, Format, neg, lt, le, eq}
 use lib.Ieee.Scale.{finite}
-use Rattle.floats.specs.Notation.{Rounded, rounded, constant, zero, pi}
+use Rattle.floats.specs.Notation.{Rounded, rounded, zero, pi}
+use Rattle.floats.specs.Decimals.{half-turn}
 use Rattle.floats.specs.Definitions.{magnitude}
 use Rattle.numbers.specs.Arcs.{asin}
 use Rattle.algebra.specs.Vectors.{norm}
@@ -19,9 +20,6 @@ use Rattle.magnetic.specs.declared.types.MagneticParams.{MagneticParams}
 use Rattle.magnetic.specs.declared.types.MagneticCoefficients.{MagneticCoefficients}
 use Rattle.magnetic.specs.declared.types.Smoothing.{Smoothing}
 use Rattle.magnetic.specs.declared.types.Smoothing.the-variants.{Absent, Present}
-
-abbrev pub half-turn : Format → Float
-half-turn = constant 0x4334_0000 0x4066_8000_0000_0000
 
 unfoldable pub finite-field : Field → Bool
 finite-field f =

@@ -2,7 +2,8 @@
 use mathlib.Core.Bool.{Bool, true, cond, _&&_}
 use lib.ListN.{replicate}
 use lib.Ieee.{Float, Format, neg, lt}
-use Rattle.floats.specs.Notation.{constant, zero, half, one, two}
+use Rattle.floats.specs.Notation.{zero, half, one, two}
+use Rattle.floats.specs.Decimals.{five, nine, ten, twenty, sixty, tenth, twentieth}
 use Rattle.filters.specs.Channels.{fresh}
 use Rattle.filters.specs.Coefficients.{filter-coeffs, gain-from-tau}
 use Rattle.limits.specs.Limits.{interval-taken, tau-or-off-taken, gain-tau-taken, duration-taken, norm-threshold-taken, dip-threshold-taken, min-gyr-taken, rejection-factor-taken}
@@ -15,28 +16,6 @@ use Rattle.magnetic.specs.declared.types.MagneticState.{MagneticState}
 use Rattle.magnetic.specs.declared.types.NormDip.{NormDip}
 use Rattle.magnetic.specs.declared.types.Smoothing.{Smoothing}
 use Rattle.magnetic.specs.declared.types.Smoothing.the-variants.{Absent, Present}
-
--- the values nearest to 9, 0.05, 20, 0.1, 10, 5 and 60
-abbrev pub nine : Format → Float
-nine = constant 0x4110_0000 0x4022_0000_0000_0000
-
-abbrev pub twentieth : Format → Float
-twentieth = constant 0x3d4c_cccd 0x3fa9_9999_9999_999a
-
-abbrev pub twenty : Format → Float
-twenty = constant 0x41a0_0000 0x4034_0000_0000_0000
-
-abbrev pub tenth : Format → Float
-tenth = constant 0x3dcc_cccd 0x3fb9_9999_9999_999a
-
-abbrev pub ten : Format → Float
-ten = constant 0x4120_0000 0x4024_0000_0000_0000
-
-abbrev pub five : Format → Float
-five = constant 0x40a0_0000 0x4014_0000_0000_0000
-
-abbrev pub sixty : Format → Float
-sixty = constant 0x4270_0000 0x404e_0000_0000_0000
 
 module _ (w : Format) where
   unfoldable pub house : MagneticParams

@@ -1,7 +1,7 @@
 -- The constructor and the fresh house filter, over the format w.
 use mathlib.Core.Bool.{Bool, cond, _&&_}
 use lib.Ieee.{Float, Format}
-use Rattle.floats.specs.Notation.{constant}
+use Rattle.floats.specs.Decimals.{hundredth}
 use Rattle.limits.specs.Answers.{Told, told}
 use Rattle.inertial.specs.Setup as inertial
 use Rattle.magnetic.specs.Setup as magnetic
@@ -13,9 +13,8 @@ use Rattle.vqf.specs.declared.types.Interval.the-variants as interval
 use Rattle.vqf.specs.declared.types.Settings.{Settings}
 use Rattle.vqf.specs.declared.types.Settings.the-variants as settings
 
--- the value nearest to 0.01
 abbrev pub house-interval : Format → Float
-house-interval = constant 0x3c23_d70a 0x3f84_7ae1_47ae_147b
+house-interval = hundredth
 
 abbrev pub interval-or : Interval → Float → Float
 interval-or interval.Absent gyr-ts = gyr-ts

@@ -1,13 +1,11 @@
 pub mod Whole
 pub mod Build
-pub mod Decimals
 pub mod Update
 pub mod Setters
 pub mod Asked
 pub mod Calls
 pub mod Refused
 pub mod Apart
-pub mod Determined
 pub mod RestHistory
 pub mod AllFinite
 pub mod Construction

@@ -5,6 +5,7 @@ use mathlib.Core.List.{List, [], _∷_, _++_}
 use Prim.Native.Nat.{ℕ}
 use lib.Ieee.{Float, Format, binary64, ofBits, add, neg, eq, lt, le}
 use Rattle.floats.specs.Notation.{Rounded, rounded, zero, half}
+use Rattle.floats.specs.Decimals.{one-and-a-half}
 use Rattle.floats.specs.Definitions.{magnitude}
 use Rattle.algebra.specs.Vectors.{vector}
 use Rattle.algebra.specs.declared.vector.Vector.{Vector}
@@ -131,7 +132,7 @@ abbrev half-second : Event
 half-second = adds (half binary64)
 
 abbrev least : Float
-least = ofBits binary64 0x3ff8_0000_0000_0000
+least = one-and-a-half binary64
 
 third-reaches : told-rest binary64 least (half-second ∷ half-second ∷ half-second ∷ []) ≡ true
 unfolding add le ofBits

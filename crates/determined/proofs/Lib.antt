@@ -1,0 +1,12 @@
+pub mod OneResult
+pub mod Floats
+pub mod Numbers
+pub mod Algebra
+pub mod Filters
+pub mod Limits
+pub mod Inertial
+pub mod Magnetic
+pub mod Whole
+pub mod Entry
+pub mod Image
+pub mod Firmware
