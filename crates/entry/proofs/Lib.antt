@@ -1,2 +1,2 @@
-pub mod Lent
+pub mod Feed
 pub mod Thin
