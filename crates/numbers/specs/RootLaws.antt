@@ -1,133 +1,21 @@
--- `root` is the nearest value (`root-meets`), and there is only one such (`root-only`). `pattern-root` and `read` are what a program's proof cites.
+-- `root` is the nearest value (`root-meets`), and there is only one such (`root-only`).
 use mathlib.Core.Path.{_≡_, refl, sym, ap, _∙_, subst}
-use mathlib.Core.Logic.{_⊎_, inl, inr}
-use mathlib.Core.Bool.{Bool, true, false, not, cond, _&&_}
+use mathlib.Core.Bool.{Bool, true, false, cond, _&&_}
 use Prim.Native.Nat.{ℕ, zero, suc, _+_, _-_, _*_, _/_, _%_, _^_, _≤_, _<_, zero-le}
-use native.Mathlib.Nat.{le-dest, le-div-iff-mul-le, zero-add, le-add-right, pow-succ', zero-mul, one-mul, div-eq-of-lt, le-of-mul-le-mul-right, le-refl, le-trans, le-of-eq, le-of-lt, lt-of-lt-of-le, lt-of-le-of-lt, lt-of-not-le, not-le-of-lt, lt-irrefl, le-of-suc-le-suc, le-antisymm, eq-or-lt-of-le, zero-lt-suc, mul-one, mul-comm, mul-assoc, mul-left-comm, mul-right-comm, mul-le-mul, mul-le-mul-left, mul-le-mul-right, mul-lt-mul-of-pos-right, mul-pos, lt-of-mul-lt-mul-right, mul-div-cancel, div-one, div-lt-iff-lt-mul, pow-suc, add-zero, pow-zero}
+use native.Mathlib.Nat.{le-dest, zero-mul, one-mul, div-eq-of-lt, le-of-mul-le-mul-right, le-refl, le-trans, le-of-eq, le-of-lt, lt-of-lt-of-le, lt-of-le-of-lt, lt-of-not-le, not-le-of-lt, lt-irrefl, le-of-suc-le-suc, le-antisymm, zero-lt-suc, mul-one, mul-comm, mul-assoc, mul-right-comm, mul-le-mul, mul-le-mul-right, mul-lt-mul-of-pos-right, mul-pos, lt-of-mul-lt-mul-right, mul-div-cancel, div-one, div-lt-iff-lt-mul}
 use native.Mathlib.Omega.{arith}
 use native.Mathlib.Decide.{decLe}
 use lib.IntN.{ℤ, pos, negsuc}
-use lib.Dec.{T, leb, ltb, eqb, leb→le, nleb→lt, ltb→lt, lt→ltb, nltb→le, lit≤, lit<, eqb→eq}
+use lib.Dec.{T, leb, ltb, eqb, leb→le, ltb→lt, lt→ltb, lit≤}
 use lib.Pow.{pow-add, pow-pos, pow-mono, pow-lt, shl-lt}
-use lib.Ieee.{Float, nan, inf, fin, Format, binary32, binary64, prec, emax, low, up, down, size, odd, fits, toBits, ofBits, nanBits, isNan, hid, top}
-use lib.Ieee.Digits.{Equals, back, odd-val, size-lt, size-le, size-reaches}
+use lib.Ieee.{Float, nan, inf, fin, Format, binary32, binary64, prec, emax, low, up, down, size, odd, fits, toBits, ofBits, hid, top}
+use lib.Ieee.Digits.{back, size-lt, size-le, size-reaches}
 use lib.Ieee.Positive.{positive}
 use native.Mathlib.Numerals.{add-one}
-use lib.Ieee.Fits.{kept-lt, reach, two, two-le-pos, odd-fits, and-l, and-r, down-pos}
-use lib.Ieee.Bits.{ofBits-toBits, nanBits-is}
-use Rattle.numbers.specs.Root.{count, square, Value, Nearest, IsRoot, Closest, isqrt, nearRoot, rootOf, root, Meets, Only}
-
--- ---- whole numbers
-
--- the whole part of a root
-step-yes : (q n : ℕ) → n / 4 < (q + 1) * (q + 1) → (2 * q + 1) * (2 * q + 1) ≤ n → ((2 * q + 1) * (2 * q + 1) ≤ n) × (n < (2 * q + 1 + 1) * (2 * q + 1 + 1))
-step-yes q n b h = omega arith
-
-step-no : (q n : ℕ) → q * q ≤ n / 4 → n < (2 * q + 1) * (2 * q + 1) → (2 * q * (2 * q) ≤ n) × (n < (2 * q + 1) * (2 * q + 1))
-step-no q n a h = omega arith
-
-pub isqrt-is : (d n : ℕ) → n < 4 ^ d → (isqrt d n * isqrt d n ≤ n) × (n < (isqrt d n + 1) * (isqrt d n + 1))
-unfolding isqrt
-isqrt-is zero n h = (omega arith, omega arith)
-isqrt-is (suc d) n h = go (isqrt d (n / 4)) (isqrt-is d (n / 4) (div-lt-iff-lt-mul (zero-lt-suc 3) .1 (subst (λ (x : ℕ). n < x) (pow-suc 4 d) h)))
-  where
-    go : (q : ℕ) → (q * q ≤ n / 4) × (n / 4 < (q + 1) * (q + 1))
-        → (cond (leb ((2 * q + 1) * (2 * q + 1)) n) (2 * q + 1) (2 * q) * cond (leb ((2 * q + 1) * (2 * q + 1)) n) (2 * q + 1) (2 * q) ≤ n)
-        × (n < (cond (leb ((2 * q + 1) * (2 * q + 1)) n) (2 * q + 1) (2 * q) + 1) * (cond (leb ((2 * q + 1) * (2 * q + 1)) n) (2 * q + 1) (2 * q) + 1))
-    go q p = pick (leb ((2 * q + 1) * (2 * q + 1)) n) (leb→le ((2 * q + 1) * (2 * q + 1)) n) (nleb→lt ((2 * q + 1) * (2 * q + 1)) n)
-      where
-        pick : (b : Bool) → (T b → (2 * q + 1) * (2 * q + 1) ≤ n) → (T (not b) → n < (2 * q + 1) * (2 * q + 1))
-            → (cond b (2 * q + 1) (2 * q) * cond b (2 * q + 1) (2 * q) ≤ n) × (n < (cond b (2 * q + 1) (2 * q) + 1) * (cond b (2 * q + 1) (2 * q) + 1))
-        pick true x y = step-yes q n (p .1) (x tt)
-        pick false x y = step-no q n (p .0) (y tt)
-
-near-up : (q w : ℕ) → w < (q + 1) * (q + 1) → q * q + q < w → Closest w (q + 1)
-near-up q w b h = omega arith
-
-near-down : (q w : ℕ) → 0 < w → q * q ≤ w → w ≤ q * q + q → Closest w q
-near-down zero w p a h = omega arith
-near-down (suc q) w p a h = omega arith
-
-pub nearRoot-closest : (d w : ℕ) → 0 < w → w < 4 ^ d → Closest w (nearRoot d w)
-unfolding nearRoot
-nearRoot-closest d w p h =
-    let q = isqrt d w in
-    let s = isqrt-is d w h in
-    go q (ltb (q * q + q) w) (ltb→lt (q * q + q) w) (nltb→le (q * q + q) w) (s .0) (s .1)
-  where
-    go : (q : ℕ) (b : Bool) → (T b → q * q + q < w) → (T (not b) → w ≤ q * q + q) → q * q ≤ w → w < (q + 1) * (q + 1) → Closest w (cond b (q + 1) q)
-    go q true x y a c = near-up q w c (x tt)
-    go q false x y a c = near-down q w p a (y tt)
-
--- there is one such
-no-two-at : (w q d : ℕ) → Closest w q → Closest w (suc q + d) → ⊥
-no-two-at w q d a b = omega arith
-
-no-two : (w q r : ℕ) → Closest w q → Closest w r → q < r → ⊥
-no-two w q r a b h = no-two-at w q (le-dest h .0) a (subst (λ (x : ℕ). Closest w x) (sym (le-dest h .1)) b)
-
-pub closest-one : (w q r : ℕ) → Closest w q → Closest w r → q ≡ r
-closest-one w q r a b =
-    le-antisymm
-    (le-of-suc-le-suc (lt-of-not-le (λ (g : suc r ≤ q). no-two w r q b a g)))
-    (le-of-suc-le-suc (lt-of-not-le (λ (g : suc q ≤ r). no-two w q r a b g)))
-
-four : (d : ℕ) → 4 ^ d ≡ 2 ^ (d + d)
-four zero = refl
-four (suc d) =
-    pow-suc 4 d ∙ ap (λ (x : ℕ). x * 4) (four d ∙ pow-add 2 d d)
-    ∙ sym (pow-add 2 (suc d) (suc d) ∙ ap (λ (x : ℕ). x * x) (pow-suc 2 d) ∙ regroup (2 ^ d))
-  where
-    regroup : (x : ℕ) → x * 2 * (x * 2) ≡ x * x * 4
-    regroup x = omega arith
-
--- ---- counting in units
-
-pub count-of : (f : Format) (x : Float) (a : ℕ) → Equals x a (2 ^ low f) → count f x ≡ a
-unfolding count
-count-of f nan a h = absurd h
-count-of f (inf s) a h = absurd h
-count-of f (fin s m e) a h = ap (λ (z : ℕ). z / down e) h ∙ mul-div-cancel a (down-pos e)
-
-pub count-odd : (f : Format) (d : ℕ) (s : Bool) (q k : ℕ) → count f (odd d s q k (low f)) ≡ q * 2 ^ k
-count-odd f d s q k = count-of f (odd d s q k (low f)) (q * 2 ^ k) (odd-val d s q k (low f))
-
--- ---- `rootOf`, by any way to write n as w * 4 ^ k with a w of 2 * prec digits, or one fewer
-size-gt : (n j : ℕ) → 2 ^ j ≤ n → j < size n
-size-gt n j h = lt-of-not-le (λ (g : size n ≤ j). not-le-of-lt (lt-of-lt-of-le (size-lt n) (pow-mono g)) h)
-
-dropped : (z p k : ℕ) → 0 < p → z ≤ p + p + (k + k) → p - 1 + (p - 1) + (k + k) < z → (z + 1) / 2 - p ≡ k
-dropped z p k P a b = omega arith
-
-pub rootOf-by : (f : Format) (n w k q : ℕ) → n ≡ w * 2 ^ (k + k) → 2 ^ (prec f - 1 + (prec f - 1)) ≤ w → w < 2 ^ (prec f + prec f) → Closest w q
-    → rootOf f n ≡ odd (suc (prec f)) false q k (low f)
-unfolding rootOf
-rootOf-by f n w k q e lo hi c =
-    let p = prec f in
-    let P : 0 < p = two-le-pos p (two f) in
-    let up-to : size n ≤ p + p + (k + k) = size-le n (p + p + (k + k)) (subst (λ (x : ℕ). x < 2 ^ (p + p + (k + k))) (sym e) (shl-lt (p + p) (k + k) hi)) in
-    let from : p - 1 + (p - 1) + (k + k) < size n =
-    size-gt n (p - 1 + (p - 1) + (k + k)) (le-trans (le-of-eq (pow-add 2 (p - 1 + (p - 1)) (k + k))) (le-trans (mul-le-mul-right (2 ^ (k + k)) lo) (le-of-eq (sym e)))) in
-    let is-k : (size n + 1) / 2 - p ≡ k = dropped (size n) p k P up-to from in
-    let is-w : n / 2 ^ (k + k) ≡ w = ap (λ (x : ℕ). x / 2 ^ (k + k)) e ∙ mul-div-cancel w (pow-pos (k + k)) in
-    let is-q : nearRoot p w ≡ q =
-    closest-one w (nearRoot p w) q (nearRoot-closest p w (lt-of-lt-of-le (pow-pos (p - 1 + (p - 1))) lo) (subst (λ (x : ℕ). w < x) (sym (four p)) hi)) c in
-    ap (λ (x : ℕ). odd (suc p) false (nearRoot p (n / 2 ^ (x + x))) x (low f)) is-k
-    ∙ ap (λ (x : ℕ). odd (suc p) false (nearRoot p x) k (low f)) is-w
-    ∙ ap (λ (x : ℕ). odd (suc p) false x k (low f)) is-q
-
--- ---- how large the root is
-least-at : (w q d : ℕ) → (suc q + d) * (suc q + d) ≤ w → Closest w q → ⊥
-least-at w q d a c = omega arith
-
-most-at : (w h d : ℕ) → w < h * h → Closest w (suc h + d) → ⊥
-most-at w h d a c = omega arith
-
-pub closest-ge : (w q h : ℕ) → h * h ≤ w → Closest w q → h ≤ q
-closest-ge w q h a c = le-of-suc-le-suc (lt-of-not-le (λ (g : suc q ≤ h). least-at w q (le-dest g .0) (subst (λ (x : ℕ). x * x ≤ w) (sym (le-dest g .1)) a) c))
-
-pub closest-le : (w q h : ℕ) → w < h * h → Closest w q → q ≤ h
-closest-le w q h a c = le-of-suc-le-suc (lt-of-not-le (λ (g : suc h ≤ q). most-at w h (le-dest g .0) a (subst (λ (x : ℕ). Closest w x) (sym (le-dest g .1)) c)))
+use lib.Ieee.Fits.{reach, two, two-le-pos, odd-fits, and-l, and-r, down-pos}
+use lib.Ieee.Bits.{ofBits-toBits}
+use Rattle.numbers.specs.Root.{count, square, Value, Nearest, Closest, nearRoot, rootOf, root, Meets, Only}
+use Rattle.numbers.specs.RootWhole.{nearRoot-closest, four, count-odd, size-gt, rootOf-by, closest-ge, closest-le}
 
 -- ---- a value of f is m * 2 ^ j units, with an m of at most prec digits
 pow-le-back : (a l : ℕ) → 2 ^ a ≤ 2 ^ l → a ≤ l
@@ -147,7 +35,7 @@ place l m (negsuc a) h =
           ∙ mul-div-cancel (m * 2 ^ (l - suc a)) (pow-pos (suc a)),
     )
 
-spread-fits : (f : Format) (s : Bool) (m : ℕ) (e : ℤ) → T (fits f (fin s m e)) → Spread f (fin s m e)
+pub spread-fits : (f : Format) (s : Bool) (m : ℕ) (e : ℤ) → T (fits f (fin s m e)) → Spread f (fin s m e)
 unfolding count fits
 spread-fits f s zero e h = (0, 0, ap (λ (x : ℕ). x * 2 ^ low f / down e) (zero-mul (up e)) ∙ ap (λ (x : ℕ). x / down e) (zero-mul (2 ^ low f)) ∙ div-eq-of-lt (down-pos e), pow-pos (prec f))
 spread-fits f s (suc m) e h =
@@ -250,7 +138,7 @@ middle-over K q w v P h c =
     omega arith
 
 -- ---- what `rootOf` makes is a value of f
-value-odd : (f : Format) (d q k l : ℕ) → T (fits f (odd d false q k l)) → Value f (odd d false q k l)
+pub value-odd : (f : Format) (d q k l : ℕ) → T (fits f (odd d false q k l)) → Value f (odd d false q k l)
 unfolding odd
 value-odd f d zero k l h = h
 value-odd f d (suc q) k l h = h
@@ -328,11 +216,11 @@ square-is : (f : Format) (s : Bool) (m : ℕ) (e : ℤ) → square f (fin s m e)
 unfolding square
 square-is f s m e = refl
 
-square-count : (f : Format) (x : Float) → square f x ≡ count f x * 2 ^ low f
+pub square-count : (f : Format) (x : Float) → square f x ≡ count f x * 2 ^ low f
 unfolding square
 square-count f x = refl
 
-root-pos : (f : Format) (m : ℕ) (e : ℤ) → root f (fin false (suc m) e) ≡ rootOf f (square f (fin false (suc m) e))
+pub root-pos : (f : Format) (m : ℕ) (e : ℤ) → root f (fin false (suc m) e) ≡ rootOf f (square f (fin false (suc m) e))
 unfolding root
 root-pos f m e = refl
 
@@ -343,7 +231,7 @@ square-lt f s m e h =
     subst (λ (z : ℕ). z < 2 ^ (low f + suc (emax f) + low f)) (sym (square-is f s (suc m) e))
     (in-range f (suc m) e (ltb→lt (suc m * up e) (2 ^ suc (emax f) * down e) (and-r (eqb (suc m % 2) 1 && ltb (suc m) (2 ^ prec f) && leb (down e) (2 ^ low f)) (ltb (suc m * up e) (2 ^ suc (emax f) * down e)) h)))
 
-count-pos : (f : Format) (s : Bool) (m : ℕ) (e : ℤ) → T (fits f (fin s (suc m) e)) → 0 < count f (fin s (suc m) e)
+pub count-pos : (f : Format) (s : Bool) (m : ℕ) (e : ℤ) → T (fits f (fin s (suc m) e)) → 0 < count f (fin s (suc m) e)
 unfolding count fits
 count-pos f s m e h =
     let A = eqb (suc m % 2) 1 in
@@ -371,7 +259,7 @@ root-nearest f (fin false (suc m) e) h p =
     (nearest-at f x w k q is (sc .3) (sc .4) c (square-lt f false m e h))
 
 -- ---- there is one nearest value
-by-count : (f : Format) (s : Bool) (m : ℕ) (e : ℤ) → toBits f (fin s m e) ≡ cond s (top f) 0 + (size (count f (fin s m e)) - prec f) * hid f + count f (fin s m e) / 2 ^ (size (count f (fin s m e)) - prec f)
+pub by-count : (f : Format) (s : Bool) (m : ℕ) (e : ℤ) → toBits f (fin s m e) ≡ cond s (top f) 0 + (size (count f (fin s m e)) - prec f) * hid f + count f (fin s m e) / 2 ^ (size (count f (fin s m e)) - prec f)
 unfolding toBits count
 by-count f s m e = refl
 
@@ -419,142 +307,3 @@ root-only f (fin true zero e) r h i = i
 root-only f (fin false zero e) r h i = i
 root-only f (fin true (suc m) e) r h i = i
 root-only f (fin false (suc m) e) r h i = nearest-unique f (fin false (suc m) e) r (root f (fin false (suc m) e)) i (root-nearest f (fin false (suc m) e) h (lt→ltb 0 (suc m) (zero-lt-suc m)))
-
--- ---- the bit pattern of a root
-exactly : (n z : ℕ) → 0 < z → 2 ^ (z - 1) ≤ n → n < 2 ^ z → size n ≡ z
-exactly n z Z lo hi = le-antisymm (size-le n z hi) (pred-lt z (size n) Z (size-gt n (z - 1) lo))
-  where
-    pred-lt : (z y : ℕ) → 0 < z → z - 1 < y → z ≤ y
-    pred-lt z y a b = omega arith
-
-written : (f : Format) (k q : ℕ) → 2 ^ (prec f - 1) ≤ q → q ≤ 2 ^ prec f
-    → 0 + (size (q * 2 ^ k) - prec f) * hid f + q * 2 ^ k / 2 ^ (size (q * 2 ^ k) - prec f) ≡ k * hid f + q
-written f k q lo hi = go (eq-or-lt-of-le hi)
-  where
-    p : ℕ
-    p = prec f
-
-    P : 0 < prec f
-    P = two-le-pos (prec f) (two f)
-
-    goal : ℕ → ℕ
-    goal d = 0 + d * hid f + q * 2 ^ k / 2 ^ d
-
-    same-k : (p k : ℕ) → p + k - p ≡ k
-    same-k p k = omega arith
-
-    one-more : (p k : ℕ) → suc (p + k) - p ≡ suc k
-    one-more p k = omega arith
-
-    less-one : (p k : ℕ) → 0 < p → p - 1 + k ≡ p + k - 1
-    less-one p k h = omega arith
-
-    twice : (p : ℕ) → 0 < p → 2 ^ p ≡ 2 ^ (p - 1) * 2
-    twice zero h = absurd (lt-irrefl 0 h)
-    twice (suc p) h = pow-suc 2 p ∙ ap (λ (x : ℕ). 2 ^ x * 2) (pred p)
-      where
-        pred : (p : ℕ) → p ≡ suc p - 1
-        pred p = omega arith
-
-    shape : (a b c : ℕ) → b ≡ c * 2 → 0 + suc a * c + c ≡ a * c + b
-    shape a b c e = omega arith
-
-    go : (q ≡ 2 ^ prec f) ⊎ (q < 2 ^ prec f) → 0 + (size (q * 2 ^ k) - prec f) * hid f + q * 2 ^ k / 2 ^ (size (q * 2 ^ k) - prec f) ≡ k * hid f + q
-    go (inr l) =
-        let z : size (q * 2 ^ k) ≡ prec f + k =
-        exactly (q * 2 ^ k) (prec f + k) (lt-of-lt-of-le P (le-add-right (prec f) k)) (le-trans (le-of-eq (ap (λ (x : ℕ). 2 ^ x) (sym (less-one (prec f) k P)) ∙ pow-add 2 (prec f - 1) k)) (mul-le-mul-right (2 ^ k) lo)) (shl-lt (prec f) k l) in
-        ap (λ (x : ℕ). 0 + x * hid f + q * 2 ^ k / 2 ^ x) (ap (λ (x : ℕ). x - prec f) z ∙ same-k (prec f) k)
-        ∙ ap (λ (x : ℕ). 0 + k * hid f + x) (mul-div-cancel q (pow-pos k))
-        ∙ ap (λ (x : ℕ). x + q) (zero-add (k * hid f))
-    go (inl e) =
-        let n : q * 2 ^ k ≡ 2 ^ (prec f + k) = ap (λ (x : ℕ). x * 2 ^ k) e ∙ sym (pow-add 2 (prec f) k) in
-        let z : size (q * 2 ^ k) ≡ suc (prec f + k) =
-        ap size n ∙ exactly (2 ^ (prec f + k)) (suc (prec f + k)) (zero-lt-suc (prec f + k)) (pow-mono (sub-one-le (prec f + k))) (pow-lt (le-refl (suc (prec f + k)))) in
-        let h : q * 2 ^ k ≡ hid f * 2 ^ suc k = ap (λ (x : ℕ). x * 2 ^ k) (e ∙ twice (prec f) P) ∙ mul-assoc (hid f) 2 (2 ^ k) ∙ ap (λ (x : ℕ). hid f * x) (sym (pow-succ' 2 k)) in
-        ap (λ (x : ℕ). 0 + x * hid f + q * 2 ^ k / 2 ^ x) (ap (λ (x : ℕ). x - prec f) z ∙ one-more (prec f) k)
-        ∙ ap (λ (x : ℕ). 0 + suc k * hid f + x) (ap (λ (x : ℕ). x / 2 ^ suc k) h ∙ mul-div-cancel (hid f) (pow-pos (suc k)))
-        ∙ shape k (2 ^ prec f) (hid f) (twice (prec f) P)
-        ∙ ap (λ (x : ℕ). k * hid f + x) (sym e)
-      where
-        sub-one-le : (a : ℕ) → suc a - 1 ≤ a
-        sub-one-le a = omega arith
-
-pub pattern-of : (f : Format) (k q : ℕ) → 2 ^ (prec f - 1) ≤ q → q ≤ 2 ^ prec f → T (fits f (odd (suc (prec f)) false q k (low f))) → ofBits f (k * hid f + q) ≡ odd (suc (prec f)) false q k (low f)
-pattern-of f k q lo hi h =
-    let r = odd (suc (prec f)) false q k (low f) in
-    sym
-    (value-bits f r (value-odd f (suc (prec f)) q k (low f) h)
-    ∙ ap (λ (n : ℕ). ofBits f (0 + (size n - prec f) * hid f + n / 2 ^ (size n - prec f))) (count-odd f (suc (prec f)) false q k)
-    ∙ ap (ofBits f) (written f k q lo hi))
-
-odd-no-nan : (d : ℕ) (s : Bool) (q k l : ℕ) → T (not (isNan (odd d s q k l)))
-unfolding odd isNan
-odd-no-nan d s zero k l = tt
-odd-no-nan d s (suc q) k l = tt
-
--- what a program that has found w, k and q is to return
-pub pattern-root : (f : Format) (n w k q : ℕ) → n ≡ w * 2 ^ (k + k) → 2 ^ (prec f - 1 + (prec f - 1)) ≤ w → w < 2 ^ (prec f + prec f) → n < 2 ^ (low f + suc (emax f) + low f) → Closest w q
-    → (ofBits f (k * hid f + q) ≡ rootOf f n) × T (not (nanBits f (k * hid f + q)))
-pattern-root f n w k q e lo hi n-lt c =
-    let p = prec f in
-    let ge : 2 ^ (p - 1) ≤ q = closest-ge w q (2 ^ (p - 1)) (le-trans (le-of-eq (sym (pow-add 2 (p - 1) (p - 1)))) lo) c in
-    let le : q ≤ 2 ^ p = closest-le w q (2 ^ p) (lt-of-lt-of-le hi (le-of-eq (pow-add 2 p p))) c in
-    let is : ofBits f (k * hid f + q) ≡ odd (suc p) false q k (low f) = pattern-of f k q ge le (root-fits f n w k q e lo n-lt le) in (
-      is ∙ sym (rootOf-by f n w k q e lo hi c),
-      subst (λ (b : Bool). T (not b)) (sym (nanBits-is f (k * hid f + q))) (subst (λ (v : Float). T (not (isNan v))) (sym is) (odd-no-nan (suc p) false q k (low f))),
-    )
-
--- ---- the bit pattern of an x above zero: K * hid + t, and x is t * 2 ^ K units
-pub record Read (f : Format) (x : Float) : Type 0 where
-  pub K : ℕ
-  pub t : ℕ
-  pub bits : toBits f x ≡ K * hid f + t
-  pub less : t < 2 ^ prec f
-  pub more : 0 < t
-  pub lead : (K ≡ 0) ⊎ (2 ^ (prec f - 1) ≤ t)
-  pub top : K + prec f ≤ low f + suc (emax f)
-  pub is : root f x ≡ rootOf f (t * 2 ^ (K + low f))
-
-pub read : (f : Format) (m : ℕ) (e : ℤ) → T (fits f (fin false (suc m) e)) → Read f (fin false (suc m) e)
-read f m e h =
-    let x = fin false (suc m) e in
-    let p = prec f in
-    let n = count f x in
-    let sp = spread-fits f false (suc m) e h in
-    let k = size n - p in
-    let k-le : k ≤ sp .1 = over (size n) p (sp .1) (size-le n (p + sp .1) (subst (λ (z : ℕ). z < 2 ^ (p + sp .1)) (sym (sp .2)) (shl-lt p (sp .1) (sp .3)))) in
-    let cut : n ≡ sp .0 * 2 ^ (sp .1 - k) * 2 ^ k = sp .2 ∙ ap (λ (z : ℕ). sp .0 * z) (ap (λ (z : ℕ). 2 ^ z) (sym (back (sp .1) k k-le)) ∙ pow-add 2 (sp .1 - k) k) ∙ sym (mul-assoc (sp .0) (2 ^ (sp .1 - k)) (2 ^ k)) in
-    let t = n / 2 ^ k in
-    let whole : n ≡ t * 2 ^ k = cut ∙ ap (λ (z : ℕ). z * 2 ^ k) (sym (ap (λ (z : ℕ). z / 2 ^ k) cut ∙ mul-div-cancel (sp .0 * 2 ^ (sp .1 - k)) (pow-pos k))) in
-    let n-lt : n < 2 ^ (low f + suc (emax f)) = lt-of-mul-lt-mul-right (2 ^ low f) (lt-of-le-of-lt (le-of-eq (sym (square-count f x))) (lt-of-lt-of-le (square-lt f false m e h) (le-of-eq (pow-add 2 (low f + suc (emax f)) (low f))))) in
-    record {
-      K = k;
-      t = t;
-      bits = by-count f false (suc m) e ∙ ap (λ (z : ℕ). z + t) (zero-add (k * hid f));
-      less = kept-lt p n;
-      more = positive-part t (2 ^ k) (lt-of-lt-of-le (count-pos f false m e h) (le-of-eq whole));
-      lead = led k refl;
-      top = high (size n) p (low f) (emax f) (reach f) (size-le n (low f + suc (emax f)) n-lt);
-      is = root-pos f m e ∙ ap (λ (z : ℕ). rootOf f z) (square-count f x ∙ ap (λ (z : ℕ). z * 2 ^ low f) whole ∙ mul-assoc t (2 ^ k) (2 ^ low f) ∙ ap (λ (z : ℕ). t * z) (sym (pow-add 2 k (low f))));
-    }
-  where
-    over : (z p j : ℕ) → z ≤ p + j → z - p ≤ j
-    over z p j g = omega arith
-
-    positive-part : (t u : ℕ) → 0 < t * u → 0 < t
-    positive-part zero u g = absurd (lt-irrefl 0 (lt-of-lt-of-le g (le-of-eq (zero-mul u))))
-    positive-part (suc t) u g = zero-lt-suc t
-
-    high : (z p l e : ℕ) → p ≤ suc e → z ≤ l + suc e → z - p + p ≤ l + suc e
-    high z p l e a b = omega arith
-
-    inside : (z p k : ℕ) → 0 < p → z - p ≡ suc k → p - 1 + (z - p) < z
-    inside z p k a b = omega arith
-
-    led : (k : ℕ) → size (count f (fin false (suc m) e)) - prec f ≡ k
-        → (size (count f (fin false (suc m) e)) - prec f ≡ 0) ⊎ (2 ^ (prec f - 1) ≤ count f (fin false (suc m) e) / 2 ^ (size (count f (fin false (suc m) e)) - prec f))
-    led zero i = inl i
-    led (suc k) i =
-        let n = count f (fin false (suc m) e) in
-        let j = size n - prec f in
-        inr (le-div-iff-mul-le (pow-pos j) .1 (le-trans (le-of-eq (sym (pow-add 2 (prec f - 1) j))) (size-reaches n (prec f - 1 + j) (inside (size n) (prec f) k (two-le-pos (prec f) (two f)) i))))
