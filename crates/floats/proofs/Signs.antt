@@ -3,10 +3,10 @@ use mathlib.Core.Path.{_≡_, refl, sym, subst, ap, _∙_}
 use Prim.Native.Nat.{ℕ, zero, suc, _+_, _*_, _^_, _<_}
 use native.Mathlib.Nat.{mul-pos, mul-one, one-mul}
 use native.Mathlib.Omega.{arith}
-use mathlib.Core.Bool.{Bool, true, false, _&&_, _||_}
+use mathlib.Core.Bool.{Bool, true, false}
 use lib.Pow.{pow-pos, pow-add}
 use lib.IntN.{ℤ, pos, negsuc}
-use lib.Dec.{T, eqb, ltb, eqb→eq, ltb→lt, lt→ltb}
+use lib.Dec.{T, eqb, eqb→eq, ltb→lt, lt→ltb}
 use lib.Ieee.{Float, nan, inf, fin, Format, up, down, neg, level, lt, eq, fits}
 use lib.Ieee.Fits.{up-pos, and-l}
 use Rattle.floats.specs.Definitions.{magnitude}

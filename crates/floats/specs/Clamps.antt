@@ -17,15 +17,6 @@ clamp-within x lo hi h = go (le x hi) (le lo x) (λ (t : T (le x hi)). t) (λ (t
     go true false u v = (le-rf lo (le→number lo hi h .0), h)
     go false b u v = (h, le-rf hi (le→number lo hi h .1))
 
--- ---- the source's `clip`, on no NaN
-pub clip-within : (x lo hi : Float) → T (number x) → T (le lo hi) → Within (cond (lt x lo) lo (cond (lt hi x) hi x)) lo hi
-clip-within x lo hi p h = go (lt x lo) (lt hi x) (nlt→le x lo p (le→number lo hi h .0)) (nlt→le hi x (le→number lo hi h .1) p)
-  where
-    go : (a b : Bool) → (T (not a) → T (le lo x)) → (T (not b) → T (le x hi)) → Within (cond a lo (cond b hi x)) lo hi
-    go true b u v = (le-rf lo (le→number lo hi h .0), h)
-    go false true u v = (h, le-rf hi (le→number lo hi h .1))
-    go false false u v = (u tt, v tt)
-
 -- `max(lo, x)` and `min(x, hi)`, a NaN going to the end
 pub at-least : (x lo : Float) → T (number lo) → T (le lo (cond (lt lo x) x lo))
 at-least x lo p = go (lt lo x) (lt→le lo x)

@@ -12,5 +12,4 @@ pub mod Products
 pub mod Quotients
 pub mod SelfDifference
 pub mod Intervals
-pub mod Kept
 pub mod Relative

@@ -3,7 +3,7 @@ use mathlib.Core.Path.{_≡_, refl, sym, subst, _∙_}
 use mathlib.Core.Bool.{Bool, true, false, not, true≢false}
 use Prim.Native.Nat.{ℕ, _*_, _%_, _^_, _≤_, _<_}
 use lib.Arith.{le→nltb}
-use lib.Dec.{T, ltb, lt→ltb}
+use lib.Dec.{T, lt→ltb}
 use lib.Ieee.{Float, nan, inf, fin, binary64, up, down, eq, isNan, ofBits, nanBits}
 use lib.Ieee.Bits.{nanBits-is, nanBits-above}
 use Rattle.floats.specs.Fractions.{signed→eq}

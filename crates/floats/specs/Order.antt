@@ -202,30 +202,3 @@ neg-le (fin s m e) (fin t n d) h =
 
 pub neg-within : (x lo hi : Float) → Within x lo hi → Within (neg x) (neg hi) (neg lo)
 neg-within x lo hi w = (neg-le x hi (w .1), neg-le lo x (w .0))
-
--- ---- more laws of the order
-le-or : (b : Bool) {P : Type 0} → (T b → P) → (T (not b) → P) → P
-le-or true h k = h tt
-le-or false h k = k tt
-
-pub lt-le-tr : (x y z : Float) → T (lt x y) → T (le y z) → T (lt x z)
-lt-le-tr x y z h k =
-    le-or (lt x z) (λ (t : T (lt x z)). t) (λ (t : T (not (lt x z))).
-    absurd (lt→nle x y h (le-tr y z x k (nlt→le x z (le→number x y (lt→le x y h) .0) (le→number y z k .1) t))))
-
-pub le-lt-tr : (x y z : Float) → T (le x y) → T (lt y z) → T (lt x z)
-le-lt-tr x y z h k =
-    le-or (lt x z) (λ (t : T (lt x z)). t) (λ (t : T (not (lt x z))).
-    absurd (lt→nle y z k (le-tr z x y (nlt→le x z (le→number x y h .0) (le→number y z (lt→le y z k) .1) t) h)))
-
--- a range cut at m
-pub split-at : (x m lo hi : Float) {P : Type 0} → T (number m) → Within x lo hi → (Within x lo m → P) → (Within x m hi → P) → P
-split-at x m lo hi M w h k =
-    le-or (lt m x) (λ (t : T (lt m x)). k (lt→le m x t, w .1)) (λ (t : T (not (lt m x))). h (w .0, nlt→le m x M (le→number lo x (w .0) .1) t))
-
-neg-nought : T (le (neg nought) nought)
-unfolding le neg
-neg-nought = tt
-
-pub neg-below : (c : Float) → T (le nought c) → T (le (neg c) c)
-neg-below c h = le-tr (neg c) (neg nought) c (neg-le nought c h) (le-tr (neg nought) nought c neg-nought h)

@@ -1,8 +1,7 @@
 -- The image of a filter: a list of 170 numbers, of which the first 25 are the settings. A list of another length is no image: nothing is written to it, and it is read as the fresh house filter; settings of another number are read as the house settings.
-use mathlib.Core.Path.{_≡_, refl, sym, ap, _∙_}
+use mathlib.Core.Path.{_≡_, refl, _∙_}
 use mathlib.Core.Bool.{Bool, cond}
-use mathlib.Core.List.{List, [], _∷_, _++_}
-use Prim.Native.Nat.{ℕ}
+use mathlib.Core.List.{List, _++_}
 use lib.Dec.{eqb}
 use lib.ListN.{length}
 use lib.Ieee.{Float, binary64}

@@ -1,12 +1,11 @@
 -- `unpack` undoes `pack`. A bank of channels is a list here, so the law asks that each has its length, as it has in every filter of the code (`round_trip` of src/lib.rt).
 use mathlib.Core.Path.{_≡_, refl, ap, _∙_}
-use mathlib.Core.Bool.{Bool}
 use mathlib.Core.List.{List, [], _∷_}
 use Prim.Native.Nat.{ℕ, zero, suc}
 use native.Mathlib.Nat.{suc-inj}
 use native.Mathlib.Omega.{arith}
 use lib.ListN.{length}
-use lib.Ieee.{Float, eq, ne, ofBits}
+use lib.Ieee.{eq, ne, ofBits}
 use Rattle.filters.specs.Banks.{channel}
 use Rattle.filters.specs.declared.channel.Channel.{Channel}
 use Rattle.magnetic.specs.declared.types.Smoothing.{Smoothing}

@@ -1,7 +1,6 @@
 -- How a flag, a phase and an absent filter stand in an image: as 0.0 or 1.0. An image that no `pack` made may have any number there: 0.0 of either sign is read as off, averaging and absent, any other number, a NaN too, as on, running and present.
 use mathlib.Core.Path.{_≡_, refl}
 use mathlib.Core.Bool.{Bool, true, false, cond}
-use mathlib.Core.List.{List, [], _∷_}
 use lib.Ieee.{Float, binary64, eq, ne, ofBits}
 use Rattle.floats.specs.Notation.{zero, one}
 use Rattle.filters.specs.Channels.{averaging, running}

@@ -1,7 +1,7 @@
 -- The house settings of the inertial half by their decimals, in either format, and the numbers of the bias that these give.
 use mathlib.Core.Path.{_≡_, refl}
 use mathlib.Core.Bool.{true}
-use lib.Ieee.{Float, Format, binary32, binary64, add, mul, div, ofInt, round, ofBits}
+use lib.Ieee.{Format, binary32, binary64, add, mul, div, ofInt, round, ofBits}
 use Rattle.floats.specs.Decimals.{decimal}
 use Rattle.algebra.specs.Values.{whole}
 use Rattle.inertial.specs.Setup.{house, bias-coefficients}

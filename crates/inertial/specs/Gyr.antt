@@ -6,7 +6,7 @@ use Rattle.floats.specs.Notation.{Rounded, rounded, zero, two, pi}
 use Rattle.floats.specs.Decimals.{half-turn}
 use Rattle.floats.specs.Definitions.{magnitude}
 use Rattle.numbers.specs.Sines.{sin, cos}
-use Rattle.algebra.specs.Vectors.{epsilon, vector, both, norm, finite}
+use Rattle.algebra.specs.Vectors.{epsilon, both, norm, finite}
 use Rattle.algebra.specs.Quaternions.{quaternion, times, normalize}
 use Rattle.algebra.specs.Quaternions as quaternions
 use Rattle.algebra.specs.declared.vector.Vector.{Vector}

@@ -4,7 +4,7 @@ use mathlib.Core.List.{List, [], _∷_}
 use lib.ListN.{getD}
 use lib.Ieee.{Float, nan, Format, neg, lt, le}
 use Rattle.floats.specs.Notation.{Rounded, rounded, zero, one, two}
-use Rattle.algebra.specs.Vectors.{vector, both, clip, finite}
+use Rattle.algebra.specs.Vectors.{vector, both, clip, finite, origin}
 use Rattle.algebra.specs.Quaternions as quaternions
 use Rattle.algebra.specs.Matrices.{rows, minus, times, transpose, invert, flatten, unflatten, diagonal}
 use Rattle.algebra.specs.Matrices as matrices
@@ -24,7 +24,6 @@ use Rattle.inertial.specs.declared.types.InertialCoefficients.{InertialC
 use Rattle.inertial.specs.declared.types.Rest.{Rest}
 use Rattle.inertial.specs.declared.kalman.Smooth.{Smooth}
 use Rattle.inertial.specs.declared.kalman.Measurement.{Measurement}
-use Rattle.inertial.specs.declared.kalman.Estimate.{Estimate}
 use Rattle.inertial.specs.declared.kalman.KalmanStep.{KalmanStep}
 use Rattle.inertial.specs.declared.kalman.KalmanStep.the-variants.{Singular, Next}
 use Rattle.inertial.specs.declared.kalman.TriedBias.{TriedBias}
@@ -105,7 +104,7 @@ module _ (w : Format) where
       }
 
   unfoldable pub unmeasured : Matrix → Measurement
-  unmeasured r = record { e = vector (zero w) (zero w) (zero w); w = vector (neg (one w)) (neg (one w)) (neg (one w)); r = r }
+  unmeasured r = record { e = origin w; w = vector (neg (one w)) (neg (one w)) (neg (one w)); r = r }
 
   unfoldable pub measured : Smooth → InertialParams → InertialCoefficients → Rest → Vector → Vector → Measurement
   measured s p k rest acc-earth bias =

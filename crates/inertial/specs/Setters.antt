@@ -22,7 +22,6 @@ use Rattle.inertial.specs.Told.{state-of, with-state, if-finite}
 use Rattle.inertial.specs.Gyr.{square, radians}
 use Rattle.inertial.specs.Setup.{fresh-rest, fresh-state}
 use Rattle.inertial.specs.declared.types.Bias.{Bias}
-use Rattle.inertial.specs.declared.types.BiasParams.{BiasParams}
 use Rattle.inertial.specs.declared.types.Deviations.{Deviations}
 use Rattle.inertial.specs.declared.types.Inclination.{Inclination}
 use Rattle.inertial.specs.declared.types.Inertial.{Inertial}

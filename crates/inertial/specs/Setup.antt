@@ -5,7 +5,7 @@ use lib.Ieee.{Float, Format}
 use Rattle.floats.specs.Notation.{Rounded, rounded, zero, half, two}
 use Rattle.floats.specs.Decimals.{three, hundred, one-and-a-half, tenth, three-hundredths, ten-thousandth, ten-billionth}
 use Rattle.floats.specs.Definitions.{larger}
-use Rattle.algebra.specs.Vectors.{vector}
+use Rattle.algebra.specs.Vectors.{origin}
 use Rattle.algebra.specs.Quaternions.{identity}
 use Rattle.algebra.specs.Matrices.{diagonal}
 use Rattle.filters.specs.Channels.{fresh}
@@ -99,9 +99,9 @@ module _ (w : Format) where
     «rest_detected» = false;
     «rest_last_squared_deviations» = record { 0 = zero w; 1 = zero w };
     «rest_t» = zero w;
-    «rest_last_gyr_lp» = vector (zero w) (zero w) (zero w);
+    «rest_last_gyr_lp» = origin w;
     «rest_gyr_lp_state» = replicate 3 fresh;
-    «rest_last_acc_lp» = vector (zero w) (zero w) (zero w);
+    «rest_last_acc_lp» = origin w;
     «rest_acc_lp_state» = replicate 3 fresh;
   }
 
@@ -110,12 +110,12 @@ module _ (w : Format) where
     inclination = record {
       «gyr_quat» = identity w;
       «acc_quat» = identity w;
-      «last_acc_lp» = vector (zero w) (zero w) (zero w);
+      «last_acc_lp» = origin w;
       «acc_lp_state» = replicate 3 fresh;
       «last_acc_corr_angular_rate» = zero w;
     };
     bias = record {
-      bias = vector (zero w) (zero w) (zero w);
+      bias = origin w;
       «bias_p» = diagonal w p0;
       «motion_bias_est_rlp_state» = replicate 9 fresh;
       «motion_bias_est_bias_lp_state» = replicate 2 fresh;

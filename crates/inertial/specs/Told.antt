@@ -4,8 +4,6 @@ use Rattle.limits.specs.Answers.{number, Told, told}
 use Rattle.inertial.specs.declared.types.Inclination.{Inclination}
 use Rattle.inertial.specs.declared.types.Bias.{Bias}
 use Rattle.inertial.specs.declared.types.Rest.{Rest}
-use Rattle.inertial.specs.declared.types.InertialParams.{InertialParams}
-use Rattle.inertial.specs.declared.types.InertialCoefficients.{InertialCoefficients}
 use Rattle.inertial.specs.declared.types.InertialState.{InertialState}
 use Rattle.inertial.specs.declared.types.Inertial.{Inertial}
 use Rattle.inertial.specs.declared.types.Updated.{Updated}

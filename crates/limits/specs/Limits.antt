@@ -1,6 +1,6 @@
 -- What the reader will take: each limit once. Ends are included; a NaN is outside; -0 counts as 0.
 use mathlib.Core.Path.{_≡_, refl}
-use mathlib.Core.Bool.{Bool, _&&_, _||_, false}
+use mathlib.Core.Bool.{Bool, _&&_, _||_}
 use mathlib.Core.List.{List, [], _∷_, map}
 use Prim.Native.Nat.{ℕ}
 use lib.Ieee.{Float, Format, binary32, binary64, neg, le, eq, round, ofBits}

@@ -1,6 +1,6 @@
 -- What a magnetometer sample tells of the field, over the format w.
 use mathlib.Core.Bool.{Bool, true, false, cond, _&&_, _||_}
-use mathlib.Core.List.{List, [], _∷_}
+use mathlib.Core.List.{[], _∷_}
 use lib.ListN.{getD}
 use lib.Ieee.{Float, nan, Format, neg, lt, le, eq}
 use lib.Ieee.Scale.{finite}
@@ -11,7 +11,6 @@ use Rattle.numbers.specs.Arcs.{asin}
 use Rattle.algebra.specs.Vectors.{norm}
 use Rattle.algebra.specs.declared.vector.Vector.{Vector}
 use Rattle.filters.specs.Banks.{filter-vec2, finite-channels}
-use Rattle.filters.specs.declared.coeffs.Coeffs.{Coeffs}
 use Rattle.filters.specs.declared.bank.Filtered2.{Filtered2}
 use Rattle.magnetic.specs.Told.{norm-dip, with-reference, with-candidate, with-norm-dip}
 use Rattle.magnetic.specs.declared.types.Field.{Field}

@@ -1,6 +1,6 @@
 -- The magnetometer step, over the format w.
 use mathlib.Core.Bool.{cond, _&&_}
-use lib.Ieee.{Float, Format}
+use lib.Ieee.{Format}
 use Rattle.numbers.specs.Arcs.{atan2}
 use Rattle.algebra.specs.Quaternions.{rotate}
 use Rattle.algebra.specs.declared.vector.Vector.{Vector}

@@ -1,5 +1,5 @@
 -- What the magnetic half is told to give, and how a part of a record is put in the place of another: the one place for each record.
-use mathlib.Core.Bool.{Bool, cond}
+use mathlib.Core.Bool.{Bool}
 use mathlib.Core.List.{List}
 use lib.Ieee.{Float}
 use Rattle.filters.specs.declared.channel.Channel.{Channel}

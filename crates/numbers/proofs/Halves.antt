@@ -1,16 +1,12 @@
 -- The part of q * q + q from 2 ^ 52 up, by halves of 26 bits, as `is_above` computes it.
 use mathlib.Core.Path.{_≡_, sym, ap, _∙_, subst}
-use mathlib.Core.Bool.{Bool}
-use Prim.Native.Nat.{ℕ, suc, _+_, _*_, _/_, _%_, _^_, _≤_, _<_}
-use native.Mathlib.Nat.{mul-le-mul, le-of-lt, le-of-suc-le-suc, lt-of-not-le, div-add-mod', le-refl, mod-lt}
+use Prim.Native.Nat.{ℕ, _+_, _*_, _/_, _%_, _^_, _≤_, _<_}
+use native.Mathlib.Nat.{mul-le-mul, le-of-lt, lt-of-not-le, div-add-mod', mod-lt}
 use native.Mathlib.Omega.{arith}
 use native.Mathlib.Decide.{decLe}
 use borrow.Author.Tests.{lt-ltb, le-ltb}
 use lib.Dec.{ltb, lit<}
-use lib.Pow.{pow-pos}
 use lib.Bits.{bitAnd, and-mask}
-use mir.Syntax.{w64}
-use mir.Val.{Fits}
 
 abbrev pub upper : ℕ → ℕ → ℕ → ℕ
 upper a b q = a * a + (2 * a * b + (b * b + q) / 67108864) / 67108864

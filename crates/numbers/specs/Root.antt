@@ -2,7 +2,7 @@
 -- Both count in units of the format's smallest positive value, 2 ^ -low: a value that the format holds is a whole number of them (`count`).
 -- The root of x, in units, is the root of `count f x * 2 ^ low f`.
 use mathlib.Core.Path.{_≡_, refl}
-use mathlib.Core.Bool.{Bool, true, false, cond}
+use mathlib.Core.Bool.{true, false, cond}
 use Prim.Native.Nat.{ℕ, zero, suc, _+_, _-_, _*_, _/_, _^_, _≤_, _<_}
 use lib.IntN.{pos}
 use lib.Dec.{T, leb, ltb}

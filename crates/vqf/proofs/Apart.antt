@@ -17,7 +17,7 @@ use Rattle.vqf.specs.Build as build
 use Rattle.vqf.specs.Update as updates
 use Rattle.vqf.specs.Setters as setters
 use Rattle.vqf.specs.Calls.{Call, update-gyr, update-acc, update-mag, update-gyr-with-ts, update, set-tau-acc, set-tau-mag, set-motion-bias-est-enabled, set-rest-bias-est-enabled, set-mag-dist-rejection-enabled, set-rest-detection-thresholds, set-mag-ref, set-bias-estimate, reset-state, reply, run}
-use Rattle.vqf.specs.Apart.{magnetic, without-sample, struck, SameTilt, plain-answers, Built, Alike, Apart}
+use Rattle.vqf.specs.Apart.{magnetic, without-sample, struck, plain-answers, Built, Alike, Apart}
 use Rattle.vqf.specs.declared.types.VQF.{VQF}
 use Rattle.vqf.specs.declared.types.Sample.{Sample}
 use Rattle.vqf.specs.declared.types.Sample.the-variants.{Absent, Given}

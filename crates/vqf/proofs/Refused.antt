@@ -3,7 +3,6 @@
 use mathlib.Core.Path.{_≡_, refl, _∙_}
 use mathlib.Core.Logic.{_≢_}
 use mathlib.Core.Bool.{Bool, true, false, cond, _&&_, Bool·beq}
-use mathlib.Core.List.{List, [], _∷_}
 use Prim.Native.Nat.{ℕ}
 use lib.Ieee.{Float, Format, eq}
 use lib.Ieee.Scale as scale
@@ -27,8 +26,8 @@ use Rattle.magnetic.specs.declared.types.Seen.{Seen}
 use Rattle.vqf.specs.Whole.{inertially, magnetically}
 use Rattle.vqf.specs.Update as updates
 use Rattle.vqf.specs.Setters as setters
-use Rattle.vqf.specs.Calls.{Call, update-gyr, update-acc, update-mag, update-gyr-with-ts, update, set-tau-acc, set-tau-mag, set-motion-bias-est-enabled, set-rest-bias-est-enabled, set-mag-dist-rejection-enabled, set-rest-detection-thresholds, set-mag-ref, set-bias-estimate, reset-state, reply}
-use Rattle.vqf.specs.Refused.{AllRefused, Unchanged, Threefold, Refused}
+use Rattle.vqf.specs.Calls.{update-gyr, update-acc, update-mag, update-gyr-with-ts, update, set-tau-acc, set-tau-mag, set-motion-bias-est-enabled, set-rest-bias-est-enabled, set-mag-dist-rejection-enabled, set-rest-detection-thresholds, set-mag-ref, set-bias-estimate, reset-state}
+use Rattle.vqf.specs.Refused.{Unchanged, Threefold, Refused}
 use Rattle.vqf.specs.declared.types.VQF.{VQF}
 use Rattle.vqf.specs.declared.types.Sample.{Sample}
 use Rattle.vqf.specs.declared.types.Sample.the-variants.{Absent, Given}

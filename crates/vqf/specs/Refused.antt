@@ -8,7 +8,6 @@ use lib.Ieee.{Format}
 use Rattle.algebra.specs.declared.vector.Vector.{Vector}
 use Rattle.vqf.specs.Calls.{Call, update-gyr, update-acc, update-mag, update, reply, run, answers}
 use Rattle.vqf.specs.declared.types.VQF.{VQF}
-use Rattle.vqf.specs.declared.types.Sample.{Sample}
 use Rattle.vqf.specs.declared.types.Sample.the-variants.{Absent, Given}
 
 -- no answer of a call is 0

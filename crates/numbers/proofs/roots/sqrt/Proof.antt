@@ -1,13 +1,12 @@
 -- `numbers::sqrt` meets its contract.
 use borrow.Author.Needs.{needs}
-use mathlib.Core.Path.{_≡_, refl, sym, ap, _∙_, subst}
-use mathlib.Core.Logic.{_⊎_, inl, inr, ⊎-elim}
-use mathlib.Core.Bool.{true}
-use Prim.Native.Nat.{ℕ, _+_, _-_, _*_, _/_, _%_, _^_, _≤_, _<_}
+use mathlib.Core.Path.{_≡_, sym, ap, _∙_, subst}
+use mathlib.Core.Logic.{_⊎_, inl, inr}
+use Prim.Native.Nat.{ℕ, _+_, _*_, _/_, _^_, _≤_, _<_}
 use native.Mathlib.Omega.{arith}
 use lib.Dec.{T}
 use lib.Bits.{bitAnd, mask-lt}
-use lib.Ieee.{Float, binary64, fits, toBits, ofBits}
+use lib.Ieee.{Float, binary64, fits, toBits}
 use Rattle.numbers.specs.Root.{root, rootOf}
 use Rattle.numbers.specs.RootPattern.{Read}
 use Rattle.numbers.proofs.Floats.{above-no-nan, parse, zero-root, no-root, low-field, high-field}
