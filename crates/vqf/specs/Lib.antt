@@ -10,3 +10,4 @@ pub mod RestHistory
 pub mod AllFinite
 pub mod Construction
 pub mod Worked
+pub mod StaysFinite
