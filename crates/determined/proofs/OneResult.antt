@@ -1,7 +1,8 @@
 -- Both results are the definition's; and a number tells its answer, so that the calls of a filter lose nothing where they are told.
 use mathlib.Core.Path.{_≡_, sym, ap, _∙_}
 use Prim.Native.Nat.{ℕ}
-use Rattle.limits.specs.Answers.{number, Told, told, number-tells}
+use Rattle.limits.specs.Answers.{number, Told, told}
+use Rattle.limits.proofs.Answers.{number-tells}
 use Rattle.limits.specs.declared.answer.Answer.{Answer}
 use Rattle.inertial.specs.Told.{told-of as inertial-told}
 use Rattle.inertial.specs.declared.types.Inertial.{Inertial}

@@ -1,7 +1,6 @@
 -- How a flag, a phase and an absent filter stand in an image: as 0.0 or 1.0. An image that no `pack` made may have any number there: 0.0 of either sign is read as off, averaging and absent, any other number, a NaN too, as on, running and present.
-use mathlib.Core.Path.{_≡_, refl}
-use mathlib.Core.Bool.{Bool, true, false, cond}
-use lib.Ieee.{Float, binary64, eq, ne, ofBits}
+use mathlib.Core.Bool.{Bool, cond}
+use lib.Ieee.{Float, binary64, ne}
 use Rattle.floats.specs.Notation.{zero, one}
 use Rattle.filters.specs.Channels.{averaging, running}
 use Rattle.filters.specs.declared.channel.Phase.{Phase}
@@ -25,17 +24,3 @@ marked c = of-phase (c .phase)
 
 unfoldable pub channel : Float → Float → Float → Channel
 channel m a b = cond (on m) (running a b) (averaging a b)
-
--- ---- each is read as it was written
-pub on-flag : (b : Bool) → on (flag b) ≡ b
-unfolding on flag ofBits eq ne
-on-flag true = refl
-on-flag false = refl
-
-pub channel-marked : (c : Channel) → channel (marked c .0) (marked c .1) (marked c .2) ≡ c
-unfolding channel marked on ofBits eq ne
-channel-marked c = go (c .phase)
-  where
-    go : (p : Phase) → channel (of-phase p .0) (of-phase p .1) (of-phase p .2) ≡ record { phase = p }
-    go (Averaging n s) = refl
-    go (Running a b) = refl

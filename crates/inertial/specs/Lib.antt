@@ -7,3 +7,6 @@ pub mod Setters
 pub mod Decimals
 pub mod AllFinite
 pub mod Construction
+pub mod Calls
+pub mod RestHistory
+pub mod Answers

@@ -7,3 +7,4 @@ pub mod Setters
 pub mod Decimals
 pub mod AllFinite
 pub mod Construction
+pub mod Answers

@@ -12,7 +12,7 @@ use lib.Ieee.{Float, nan, inf, fin, binary64, up, down, eq, lt, div, isNan, fits
 use lib.Ieee.Fits.{up-pos, and-l}
 use lib.Ieee.Bits.{is-true}
 use Rattle.numbers.specs.Root.{root}
-use Rattle.numbers.specs.RootPattern.{Read, read}
+use Rattle.numbers.proofs.RootPattern.{Read, read}
 
 pub no-nan : (x : Float) → eq x x ≡ true → T (not (isNan x))
 unfolding eq isNan

@@ -9,8 +9,8 @@ use lib.Pow.{pow-add, pow-pos, pow-mono, shl-lt}
 use lib.Bits.{bitAnd, and-mask, mask-lt}
 use lib.Ieee.{binary64, ofBits, nanBits}
 use Rattle.numbers.specs.Root.{rootOf, Closest}
-use Rattle.numbers.specs.RootWhole.{closest-le}
-use Rattle.numbers.specs.RootPattern.{pattern-root}
+use Rattle.numbers.proofs.RootWhole.{closest-le}
+use Rattle.numbers.proofs.RootPattern.{pattern-root}
 
 -- one turn
 pub doubled : (m e n : ℕ) → 0 < e → m * 2 ^ e ≡ n → m * 2 * 2 ^ (e - 1) ≡ n

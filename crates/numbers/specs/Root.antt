@@ -77,7 +77,7 @@ root f (fin s zero e) = fin s zero e
 root f (fin true (suc m) e) = nan
 root f (fin false (suc m) e) = rootOf f (square f (fin false (suc m) e))
 
--- ---- what is proved of it, in `RootLaws.antt`: at any format, `root` is the nearest value, and nothing else is
+-- ---- what is proved of it, in proofs/RootLaws.antt: at any format, `root` is the nearest value, and nothing else is
 abbrev pub Meets : Format → Type 0
 Meets f = (x : Float) → T (fits f x) → IsRoot f x (root f x)
 

@@ -1,5 +1,5 @@
 -- Construction answers 0 or 4, leaves the fresh house filter beside a 4, and nothing but finite numbers.
--- The statements are in specs/Construction.antt; each follows from the one test of `new`, whichever way it turns out.
+-- Each follows from the one test of `new`, whichever way it turns out.
 use mathlib.Core.Path.{_≡_, refl}
 use mathlib.Core.Logic.{_⊎_, inl, inr}
 use mathlib.Core.Bool.{Bool, true, false, cond}
@@ -10,46 +10,38 @@ use Rattle.floats.specs.Tests.{both}
 use Rattle.limits.specs.Answers.{Told, told}
 use Rattle.limits.specs.Limits.{tau-or-off-taken}
 use Rattle.inertial.specs.Setup as inertial
-use Rattle.inertial.specs.Construction as inertial-built
+use Rattle.inertial.proofs.Construction as inertial-built
 use Rattle.magnetic.specs.Setup as magnetic
-use Rattle.magnetic.specs.Construction as magnetic-built
+use Rattle.magnetic.proofs.Construction as magnetic-built
 use Rattle.vqf.specs.Build.{house-interval, house, interval-or, settings-or-house, taken, built, fresh, new}
 use Rattle.vqf.specs.AllFinite.{all-finite}
-use Rattle.vqf.specs.Construction.{all-taken, ZeroOrFour, FreshBesideFour, HouseTaken, LeavesFinite}
+use Rattle.vqf.specs.Construction.{all-taken, Construction}
 use Rattle.vqf.specs.declared.types.Params.{Params}
 use Rattle.vqf.specs.declared.types.VQF.{VQF}
 
 abbrev answer : Bool → VQF → VQF → Told VQF
 answer b f g = cond b (told 0 f) (told 4 g)
 
-pub zero-or-four : ZeroOrFour
-unfolding new
-zero-or-four w gyr-ts acc-ts mag-ts given = go (all-taken w gyr-ts acc-ts mag-ts given) _ _
-  where
-    go : (b : Bool) (f g : VQF) → ((b ≡ true) × (answer b f g .number ≡ 0)) ⊎ ((b ≡ false) × (answer b f g .number ≡ 4))
-    go true f g = inl (refl, refl)
-    go false f g = inr (refl, refl)
+of-number : (b : Bool) (f g : VQF) → ((b ≡ true) × (answer b f g .number ≡ 0)) ⊎ ((b ≡ false) × (answer b f g .number ≡ 4))
+of-number true f g = inl (refl, refl)
+of-number false f g = inr (refl, refl)
 
-pub fresh-beside-four : FreshBesideFour
-unfolding new
-fresh-beside-four w gyr-ts acc-ts mag-ts given = go (all-taken w gyr-ts acc-ts mag-ts given) _ _
-  where
-    go : (b : Bool) (f g : VQF) → answer b f g .number ≡ 4 → answer b f g .left ≡ g
-    go true f g e = cc
-    go false f g e = refl
+beside-four : (b : Bool) (f g : VQF) → answer b f g .number ≡ 4 → answer b f g .left ≡ g
+beside-four true f g e = cc
+beside-four false f g e = refl
 
-house-within : (w : Format) → T (taken w (house w) (house-interval w) (house-interval w) (house-interval w))
+taken-gives : (b : Bool) → T b → (f g : VQF) → answer b f g ≡ told 0 f
+taken-gives true t f g = refl
+taken-gives false t f g = absurd t
+
+either-finite : (b : Bool) (f g : VQF) → (T b → T (all-finite f)) → T (all-finite g) → T (all-finite (answer b f g .left))
+either-finite true f g h k = h tt
+either-finite false f g h k = k
+
+pub house-within : (w : Format) → T (taken w (house w) (house-interval w) (house-interval w) (house-interval w))
 unfolding house taken inertial.house inertial.taken inertial.rest-params-taken inertial.bias-params-taken magnetic.house magnetic.taken magnetic.taus-taken magnetic.thresholds-taken magnetic.times-taken tau-or-off-taken larger neg le ofBits
 house-within binary32 = tt
 house-within binary64 = tt
-
-pub house-taken : HouseTaken
-unfolding new fresh
-house-taken w = go (taken w (house w) (house-interval w) (house-interval w) (house-interval w)) (house-within w) _ _
-  where
-    go : (b : Bool) → T b → (f g : VQF) → answer b f g ≡ told 0 f
-    go true t f g = refl
-    go false t f g = absurd t
 
 built-finite : (p : Params) (gyr-ts acc-ts mag-ts : Float) → T (taken binary64 p gyr-ts acc-ts mag-ts) → T (all-finite (built binary64 p gyr-ts acc-ts mag-ts))
 unfolding taken built all-finite
@@ -61,12 +53,13 @@ fresh-finite : T (all-finite (fresh binary64))
 unfolding fresh
 fresh-finite = built-finite (house binary64) _ _ _ (house-within binary64)
 
-pub leaves-finite : LeavesFinite
-unfolding new
-leaves-finite gyr-ts acc-ts mag-ts given =
-    go (all-taken binary64 gyr-ts acc-ts mag-ts given) _
-    (built-finite (settings-or-house binary64 given) gyr-ts (interval-or acc-ts gyr-ts) (interval-or mag-ts gyr-ts))
-  where
-    go : (b : Bool) (f : VQF) → (T b → T (all-finite f)) → T (all-finite (answer b f (fresh binary64) .left))
-    go true f h = h tt
-    go false f h = fresh-finite
+pub construction : Construction
+unfolding new fresh
+construction = record {
+  zero-or-four = λ w gyr-ts acc-ts mag-ts given. of-number (all-taken w gyr-ts acc-ts mag-ts given) _ _;
+  fresh-beside-four = λ w gyr-ts acc-ts mag-ts given. beside-four (all-taken w gyr-ts acc-ts mag-ts given) _ _;
+  house-taken = λ w. taken-gives (taken w (house w) (house-interval w) (house-interval w) (house-interval w)) (house-within w) _ _;
+  leaves-finite = λ gyr-ts acc-ts mag-ts given.
+      either-finite (all-taken binary64 gyr-ts acc-ts mag-ts given) _ _
+      (built-finite (settings-or-house binary64 given) gyr-ts (interval-or acc-ts gyr-ts) (interval-or mag-ts gyr-ts)) fresh-finite;
+}

@@ -5,6 +5,7 @@ use Prim.Native.Nat.{ℕ}
 use lib.Ieee.{Float, Format}
 use Rattle.algebra.specs.declared.vector.Vector.{Vector}
 use Rattle.limits.specs.Answers.{Told}
+use Rattle.inertial.specs.Calls as inertial
 use Rattle.inertial.specs.declared.setters.Sigma.{Sigma}
 use Rattle.vqf.specs.Whole.{ToldAll}
 use Rattle.vqf.specs.Update as updates
@@ -21,6 +22,27 @@ pub data Call : Type 0 where
   set-rest-detection-thresholds set-mag-ref : Float → Float → Call
   set-bias-estimate : Vector → Sigma → Call
   reset-state : Call
+
+-- the calls on the inertial half that a call makes: none where it is magnetic, two for an `update`
+abbrev pub inertial-part : Call → List inertial.Call
+inertial-part (update-gyr v) = inertial.update-gyr v ∷ []
+inertial-part (update-acc v) = inertial.update-acc v ∷ []
+inertial-part (update-mag v) = []
+inertial-part (update-gyr-with-ts v ts) = inertial.update-gyr-with-ts v ts ∷ []
+inertial-part (update g a m) = inertial.update-gyr g ∷ inertial.update-acc a ∷ []
+inertial-part (set-tau-acc tau) = inertial.set-tau-acc tau ∷ []
+inertial-part (set-tau-mag tau) = []
+inertial-part (set-motion-bias-est-enabled on) = inertial.set-motion-bias-est-enabled on ∷ []
+inertial-part (set-rest-bias-est-enabled on) = inertial.set-rest-bias-est-enabled on ∷ []
+inertial-part (set-mag-dist-rejection-enabled on) = inertial.set-mag-dist-rejection-enabled on ∷ []
+inertial-part (set-rest-detection-thresholds g a) = inertial.set-rest-detection-thresholds g a ∷ []
+inertial-part (set-mag-ref norm dip) = []
+inertial-part (set-bias-estimate v sigma) = inertial.set-bias-estimate v sigma ∷ []
+inertial-part reset-state = inertial.reset-state ∷ []
+
+abbrev pub inertial-calls : List Call → List inertial.Call
+inertial-calls [] = []
+inertial-calls (c ∷ cs) = inertial-part c ++ inertial-calls cs
 
 -- a call's answers, three for `update` and one for any other, and the filter that it leaves
 pub record Reply : Type 0 where

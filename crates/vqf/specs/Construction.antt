@@ -16,24 +16,18 @@ use Rattle.vqf.specs.declared.types.Settings.the-variants as settings
 abbrev pub all-taken : Format → Float → Interval → Interval → Settings → Bool
 all-taken w gyr-ts acc-ts mag-ts given = taken w (settings-or-house w given) gyr-ts (interval-or acc-ts gyr-ts) (interval-or mag-ts gyr-ts)
 
--- "0: done"; "4: any setting .. or constructor interval outside limits". There is no other answer
-abbrev pub ZeroOrFour : Type 0
-ZeroOrFour =
-    (w : Format) (gyr-ts : Float) (acc-ts mag-ts : Interval) (given : Settings)
-    → ((all-taken w gyr-ts acc-ts mag-ts given ≡ true) × (new w gyr-ts acc-ts mag-ts given .number ≡ 0))
-    ⊎ ((all-taken w gyr-ts acc-ts mag-ts given ≡ false) × (new w gyr-ts acc-ts mag-ts given .number ≡ 4))
-
--- "constructor: a fresh house filter beside the 4"
-abbrev pub FreshBesideFour : Type 0
-FreshBesideFour =
-    (w : Format) (gyr-ts : Float) (acc-ts mag-ts : Interval) (given : Settings)
-    → new w gyr-ts acc-ts mag-ts given .number ≡ 4
-    → new w gyr-ts acc-ts mag-ts given .left ≡ fresh w
-
--- "Intervals 0.01 .. what the constructor takes where settings are absent": they are within limits, and the fresh house filter is what they give
-abbrev pub HouseTaken : Type 0
-HouseTaken = (w : Format) → new w (house-interval w) interval.Absent interval.Absent settings.Absent ≡ told 0 (fresh w)
-
--- "Construction never reaches 6", which is "a number the call would store is NaN or infinite": whatever is given, all numbers that it leaves are finite
-abbrev pub LeavesFinite : Type 0
-LeavesFinite = (gyr-ts : Float) (acc-ts mag-ts : Interval) (given : Settings) → T (all-finite (new binary64 gyr-ts acc-ts mag-ts given .left))
+pub record Construction : Type 0 where
+  -- "0: done"; "4: any setting .. or constructor interval outside limits". There is no other answer
+  pub zero-or-four :
+      (w : Format) (gyr-ts : Float) (acc-ts mag-ts : Interval) (given : Settings)
+      → ((all-taken w gyr-ts acc-ts mag-ts given ≡ true) × (new w gyr-ts acc-ts mag-ts given .number ≡ 0))
+      ⊎ ((all-taken w gyr-ts acc-ts mag-ts given ≡ false) × (new w gyr-ts acc-ts mag-ts given .number ≡ 4))
+  -- "constructor: a fresh house filter beside the 4"
+  pub fresh-beside-four :
+      (w : Format) (gyr-ts : Float) (acc-ts mag-ts : Interval) (given : Settings)
+      → new w gyr-ts acc-ts mag-ts given .number ≡ 4
+      → new w gyr-ts acc-ts mag-ts given .left ≡ fresh w
+  -- "Intervals 0.01 .. what the constructor takes where settings are absent": they are within limits, and the fresh house filter is what they give
+  pub house-taken : (w : Format) → new w (house-interval w) interval.Absent interval.Absent settings.Absent ≡ told 0 (fresh w)
+  -- "Construction never reaches 6", which is "a number the call would store is NaN or infinite": whatever is given, all numbers that it leaves are finite
+  pub leaves-finite : (gyr-ts : Float) (acc-ts mag-ts : Interval) (given : Settings) → T (all-finite (new binary64 gyr-ts acc-ts mag-ts given .left))

@@ -11,3 +11,6 @@ pub mod AllFinite
 pub mod Construction
 pub mod Worked
 pub mod StaysFinite
+pub mod AnswersFinite
+pub mod Answers
+pub mod Theorems

@@ -2,7 +2,7 @@
 use mathlib.Core.Path.{ap, _∙_}
 use lib.ListN.{length-map}
 use Rattle.image.specs.Image.{unpack}
-use Rattle.image.specs.Inverse.{unpack-pack}
+use Rattle.image.proofs.Inverse.{unpack-pack}
 use borrow.Author.Needs.{needs}
 use Rattle.image.proofs.round_trip.Statement.{statement}
 use Rattle.image.proofs.round_trip.Tie as tie

@@ -7,7 +7,8 @@ use lib.ListN.{length, take, set, getD, length-set}
 use lib.Seq.{take-all}
 use mathlib.Core.List.{List}
 use lib.Ieee.{Float, nan}
-use Rattle.image.specs.Put.{put, put-more}
+use Rattle.image.specs.Put.{put}
+use Rattle.image.proofs.Put.{put-more}
 use Rattle.image.proofs.pack.put.Statement.{statement}
 use Rattle.image.proofs.pack.put.Tie as tie
 

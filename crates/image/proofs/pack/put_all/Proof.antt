@@ -1,5 +1,5 @@
 -- The six parts one after the other.
-use Rattle.image.specs.Image.{put-pack}
+use Rattle.image.proofs.Put.{put-pack}
 use borrow.Author.Needs.{needs}
 use Rattle.image.proofs.pack.put_all.Statement.{statement}
 use Rattle.image.proofs.pack.put_all.Tie as tie

@@ -1,7 +1,7 @@
 -- One run of numbers after another.
 use borrow.Author.Needs.{needs}
 use Rattle.image.specs.Pack.{all-bias, bias, channels9}
-use Rattle.image.specs.Put.{put-three}
+use Rattle.image.proofs.Put.{put-three}
 use Rattle.image.proofs.pack.put_bias.Statement.{statement}
 use Rattle.image.proofs.pack.put_bias.Tie as tie
 

@@ -1,7 +1,7 @@
 -- One run of numbers after another.
 use borrow.Author.Needs.{needs}
 use Rattle.image.specs.Pack.{all-magnetic-state, magnetic-state}
-use Rattle.image.specs.Put.{put-put}
+use Rattle.image.proofs.Put.{put-put}
 use Rattle.image.proofs.pack.put_magnetic_state.Statement.{statement}
 use Rattle.image.proofs.pack.put_magnetic_state.Tie as tie
 

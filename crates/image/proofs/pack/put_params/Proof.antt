@@ -1,7 +1,7 @@
 -- One run of numbers after another.
 use borrow.Author.Needs.{needs}
 use Rattle.image.specs.Pack.{all-params, inertial-params}
-use Rattle.image.specs.Put.{put-put}
+use Rattle.image.proofs.Put.{put-put}
 use Rattle.image.proofs.pack.put_params.Statement.{statement}
 use Rattle.image.proofs.pack.put_params.Tie as tie
 

@@ -1,7 +1,7 @@
 -- One run of numbers after another.
 use borrow.Author.Needs.{needs}
 use Rattle.image.specs.Pack.{all-rest, rest, channels3}
-use Rattle.image.specs.Put.{put-three}
+use Rattle.image.proofs.Put.{put-three}
 use Rattle.image.proofs.pack.put_rest.Statement.{statement}
 use Rattle.image.proofs.pack.put_rest.Tie as tie
 

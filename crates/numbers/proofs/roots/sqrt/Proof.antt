@@ -8,7 +8,7 @@ use lib.Dec.{T}
 use lib.Bits.{bitAnd, mask-lt}
 use lib.Ieee.{Float, binary64, fits, toBits}
 use Rattle.numbers.specs.Root.{root, rootOf}
-use Rattle.numbers.specs.RootPattern.{Read}
+use Rattle.numbers.proofs.RootPattern.{Read}
 use Rattle.numbers.proofs.Floats.{above-no-nan, parse, zero-root, no-root, low-field, high-field}
 use Rattle.numbers.proofs.roots.sqrt.Statement.{statement}
 use Rattle.numbers.proofs.roots.sqrt.Tie as tie

@@ -1,0 +1,5 @@
+pub mod Construction
+pub mod RestHistory
+pub mod Tested
+pub mod FiniteCalls
+pub mod Answers

@@ -1,0 +1,4 @@
+pub mod Construction
+pub mod Tested
+pub mod FiniteCalls
+pub mod Answers

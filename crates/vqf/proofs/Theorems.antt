@@ -1,0 +1,31 @@
+-- Each theorem by its own proof.
+use Rattle.numbers.proofs.RootLaws.{root-meets, root-only}
+use Rattle.numbers.proofs.Ranges.{ranges}
+use Rattle.filters.proofs.Bounds.{bounds}
+use Rattle.filters.proofs.InStep.{stay-in-step}
+use Rattle.vqf.specs.Theorems.{Theorems}
+use Rattle.vqf.proofs.ByTable.{answers}
+use Rattle.vqf.proofs.Refused.{refused}
+use Rattle.vqf.proofs.Construction.{construction}
+use Rattle.vqf.proofs.StaysFinite.{stays-finite}
+use Rattle.vqf.proofs.AnswersFinite.{answers-finite}
+use Rattle.vqf.proofs.Apart.{apart}
+use Rattle.vqf.proofs.RestHistory.{rest-from-history}
+use Rattle.vqf.proofs.Worked.{worked}
+
+pub theorems : Theorems
+theorems = record {
+  answers = answers;
+  refused = refused;
+  construction = construction;
+  stays-finite = stays-finite;
+  answers-finite = answers-finite;
+  apart = apart;
+  rest-from-history = rest-from-history;
+  root-meets = root-meets;
+  root-only = root-only;
+  ranges = ranges;
+  bounds = bounds;
+  stay-in-step = stay-in-step;
+  worked = worked;
+}

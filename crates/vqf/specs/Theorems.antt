@@ -1,0 +1,44 @@
+-- What is proved of the filter, on one page. Each statement stands in the file that its `use` line names; proofs/Theorems.antt gives them all.
+use lib.Ieee.{Format}
+use Rattle.numbers.specs.Root.{Meets, Only}
+use Rattle.numbers.specs.Ranges.{Ranges}
+use Rattle.filters.specs.Bounds.{Bounds}
+use Rattle.filters.specs.InStep.{StayInStep}
+use Rattle.vqf.specs.Answers.{Answers}
+use Rattle.vqf.specs.Refused.{Refused}
+use Rattle.vqf.specs.Construction.{Construction}
+use Rattle.vqf.specs.StaysFinite.{StaysFinite}
+use Rattle.vqf.specs.AnswersFinite.{AnswersStayFinite}
+use Rattle.vqf.specs.Apart.{Apart}
+use Rattle.vqf.specs.RestHistory.{RestFromHistory}
+use Rattle.vqf.specs.Worked.{Worked}
+
+pub record Theorems : Type 0 where
+  -- ---- Nothing breaks it.
+  -- each number exactly when its row of the table says
+  pub answers : (w : Format) → Answers w
+  -- a refused call leaves the filter as it was, and an `update` is its three calls
+  pub refused : (w : Format) → Refused w
+  -- construction answers 0 or 4, leaves finite numbers, and a fresh house filter beside the 4
+  pub construction : Construction
+  -- whatever is given to the constructor and to the calls after it, every number that the filter holds is finite
+  pub stays-finite : StaysFinite
+  -- and so is every number that it answers when asked, `quat_9d` apart
+  pub answers-finite : AnswersStayFinite
+  -- ---- Steel cannot touch the tilt.
+  -- nothing magnetic reaches tilt, bias, covariance, rest flag or non-magnetic answers
+  pub apart : (w : Format) → Apart w
+  -- rest is reported exactly when the construction, the calls and their answers tell it
+  pub rest-from-history : (w : Format) → RestFromHistory w
+  -- ---- The numbers below.
+  -- the square root is the nearest value of its format, and nothing else is
+  pub root-meets : (w : Format) → Meets w
+  pub root-only : (w : Format) → Only w
+  -- domains and ranges of sine, cosine, tangent, exponential and arc functions
+  pub ranges : Ranges
+  -- coefficients of every accepted filter are finite, gains lie within 0 and 1
+  pub bounds : Bounds
+  -- the channels of a bank average together and end together
+  pub stay-in-step : StayInStep
+  -- ---- The worked values that the prover computes.
+  pub worked : Worked
