@@ -2,11 +2,12 @@
 //! stops at the first line that differs. FOUND is the one under test.
 
 mod fields;
+mod words;
 
 use fields::{fields, Field};
 use std::env;
 use std::fs::File;
-use std::io::{BufRead, BufReader, Lines};
+use std::io::{BufRead, BufReader};
 use std::process::exit;
 
 /// A call is shown with what it printed this many lines before.
@@ -17,54 +18,81 @@ fn main() {
     let [script, wanted, found] = arguments.as_slice() else {
         stop("usage: differ SCRIPT WANTED FOUND");
     };
-    let mut found = lines(found);
-    let mut wanted = lines(wanted);
-    let mut recent: Vec<String> = Vec::new();
+    let [mut script, mut wanted, mut found] = [script, wanted, found].map(|path| Text::open(path));
+    let mut recent: Vec<(u64, String)> = Vec::new();
     let mut compared = 0u64;
-    for call in lines(script) {
-        compared += 1;
-        let call = call.unwrap_or_else(|error| stop(&format!("line {compared}: {error}")));
+    let mut last = String::new();
+    while let Some(call) = script.next() {
+        if words::is_silent(call.as_bytes()) || last.starts_with("bad ") {
+            continue;
+        }
         if recent.len() == CALLS_SHOWN {
             recent.remove(0);
         }
-        recent.push(call);
-        let pair = (next(&mut wanted, compared), next(&mut found, compared));
-        match pair {
-            (Some(wanted), Some(found)) if wanted == found => {
-                if wanted.starts_with("bad ") {
-                    break;
-                }
-            }
+        recent.push((script.number, call));
+        match (wanted.next(), found.next()) {
+            (Some(wanted), Some(found)) if wanted == found => last = wanted,
             (wanted, found) => {
-                report(compared, &recent, wanted.as_deref(), found.as_deref());
+                report(&recent, wanted.as_deref(), found.as_deref());
                 exit(1);
             }
         }
+        compared += 1;
     }
-    if let Some(extra) = next(&mut found, compared + 1) {
-        stop(&format!("after the last call one more line came: {extra}"));
+    for (whose, output) in [("oracle", &mut wanted), ("program", &mut found)] {
+        if let Some(extra) = output.next() {
+            stop(&format!(
+                "after the last call the {whose} printed one more line: {extra}"
+            ));
+        }
     }
-    println!("{compared} lines alike");
+    if compared == 0 {
+        stop("nothing was compared");
+    }
+    let end = if last.starts_with("bad ") {
+        ", the last one bad"
+    } else {
+        ""
+    };
+    println!("{compared} lines alike{end}");
 }
 
-fn lines(path: &str) -> Lines<BufReader<File>> {
-    match File::open(path) {
-        Ok(file) => BufReader::with_capacity(1 << 16, file).lines(),
-        Err(error) => stop(&format!("cannot read {path}: {error}")),
+/// Lines with the numbers that they have in their file, each with the newline that ends it.
+struct Text<'a> {
+    path: &'a str,
+    file: BufReader<File>,
+    number: u64,
+}
+
+impl<'a> Text<'a> {
+    fn open(path: &'a str) -> Self {
+        let file =
+            File::open(path).unwrap_or_else(|error| stop(&format!("cannot read {path}: {error}")));
+        Self {
+            path,
+            file: BufReader::with_capacity(1 << 16, file),
+            number: 0,
+        }
+    }
+
+    fn next(&mut self) -> Option<String> {
+        let mut line = Vec::new();
+        self.number += 1;
+        match self.file.read_until(b'\n', &mut line) {
+            Ok(0) => None,
+            Ok(_) => Some(String::from_utf8_lossy(&line).into_owned()),
+            Err(error) => stop(&format!("{} line {}: {error}", self.path, self.number)),
+        }
     }
 }
 
-fn next(lines: &mut Lines<BufReader<File>>, number: u64) -> Option<String> {
-    lines
-        .next()
-        .map(|line| line.unwrap_or_else(|error| stop(&format!("output line {number}: {error}"))))
-}
-
-fn report(number: u64, recent: &[String], wanted: Option<&str>, found: Option<&str>) {
-    println!("line {number} differs");
-    for (back, call) in recent.iter().rev().enumerate() {
-        let mark = if back == 0 { "call" } else { "before" };
-        println!("  {mark:6} {}: {call}", number - back as u64);
+fn report(recent: &[(u64, String)], wanted: Option<&str>, found: Option<&str>) {
+    for (back, (number, call)) in recent.iter().rev().enumerate() {
+        let call = call.trim_end();
+        match back {
+            0 => println!("line {number} differs\n  call   {number}: {call}"),
+            _ => println!("  before {number}: {call}"),
+        }
     }
     match (wanted, found) {
         (Some(wanted), Some(found)) => report_fields(wanted, found),
@@ -74,7 +102,11 @@ fn report(number: u64, recent: &[String], wanted: Option<&str>, found: Option<&s
 }
 
 fn report_fields(wanted: &str, found: &str) {
-    let (wanted, found) = (fields(wanted), fields(found));
+    if wanted.trim_end() == found.trim_end() {
+        println!("  oracle {wanted:?}\n  found  {found:?}");
+        return;
+    }
+    let (wanted, found) = (fields(wanted.trim_end()), fields(found.trim_end()));
     let unlike = wanted.iter().zip(&found).filter(|(w, f)| w.word != f.word);
     for (wanted, found) in unlike.clone().take(1) {
         println!("  field  {}", wanted.name());

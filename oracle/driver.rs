@@ -1,14 +1,21 @@
-//! Plays a call script from the standard input through the source and prints its answers.
+//! Plays a call script from the standard input through the source and prints its answers, or with
+//! the argument `show` the table that the program of that name prints.
 
 mod limits;
 mod lines;
 mod rules;
+mod table;
+mod words;
 
 use limits::{Settings, SETTINGS};
 use rules::{Answer, Call};
 use std::io::{self, BufRead, BufWriter, ErrorKind, Write};
 use std::process::exit;
 use vqf::{math, VQF};
+
+/// The limits of a decimal: its digits from the first that is not 0, and its power of ten.
+const DIGITS: usize = 15;
+const POWER: i64 = 22;
 
 fn main() {
     rules::hush_missing_inverse();
@@ -21,17 +28,31 @@ fn main() {
     }
 }
 
+/// How a line is answered: as `calls` does it, or as `show` does.
+type Answering = fn(u64, &mut VQF, &[&str]) -> Option<String>;
+
 fn play_script() -> io::Result<()> {
+    let is_table = std::env::args().nth(1).as_deref() == Some("show");
+    let answering: Answering = match is_table {
+        true => table_row,
+        false => |_, filter, words| answer_line(filter, words),
+    };
     let mut input = io::stdin().lock();
     let mut output = BufWriter::with_capacity(1 << 16, io::stdout().lock());
     let mut filter = rules::fresh_house_filter();
+    if is_table {
+        writeln!(output, "{}", table::HEAD)?;
+    }
     let mut line = Vec::new();
     for number in 1u64.. {
         line.clear();
         if input.read_until(b'\n', &mut line)? == 0 {
             break;
         }
-        match words(&line).and_then(|words| answer_line(&mut filter, &words)) {
+        if words::is_silent(&line) {
+            continue;
+        }
+        match words::words(&line).and_then(|words| answering(number, &mut filter, &words)) {
             Some(answer) => writeln!(output, "{answer}")?,
             None => {
                 writeln!(output, "bad {number}")?;
@@ -40,11 +61,6 @@ fn play_script() -> io::Result<()> {
         }
     }
     output.flush()
-}
-
-fn words(line: &[u8]) -> Option<Vec<&str>> {
-    let line = line.strip_suffix(b"\n").unwrap_or(line);
-    Some(std::str::from_utf8(line).ok()?.split(' ').collect())
 }
 
 /// What the line prints, or nothing where it is no line of the format.
@@ -66,6 +82,28 @@ fn answer_line(filter: &mut VQF, words: &[&str]) -> Option<String> {
             }
         },
     }
+}
+
+/// The row of the table, or nothing where it is no line of the format.
+fn table_row(number: u64, filter: &mut VQF, words: &[&str]) -> Option<String> {
+    let (word, arguments) = words.split_first()?;
+    let answer = match (*word, arguments) {
+        ("state" | "get", []) => "-".to_string(),
+        ("upd", _) => {
+            let (gyr, acc, mag) = update_arguments(arguments)?;
+            rules::update(filter, gyr, acc, mag)
+                .map(|answer| table::in_words(number_of(answer)))
+                .join(", ")
+        }
+        _ => match function_value(word, arguments) {
+            Some(value) => return Some(table::value(number, word, &lines::hex(value))),
+            None => {
+                let call = call(word, arguments)?;
+                table::in_words(number_of(rules::play(filter, &call))).to_string()
+            }
+        },
+    };
+    Some(table::row(number, word, &answer, filter))
 }
 
 fn number_of(answer: Answer) -> u8 {
@@ -169,10 +207,42 @@ fn numbers<const N: usize>(words: &[&str]) -> Option<[f64; N]> {
 
 fn number(word: &str) -> Option<f64> {
     let lower_hex = |byte: u8| byte.is_ascii_digit() || (b'a'..=b'f').contains(&byte);
-    if word.len() != 16 || !word.bytes().all(lower_hex) {
-        return None;
+    if word.len() == 16 && word.bytes().all(lower_hex) {
+        return u64::from_str_radix(word, 16).ok().map(f64::from_bits);
     }
-    u64::from_str_radix(word, 16).ok().map(f64::from_bits)
+    word.parse().ok().filter(|_| is_decimal(word))
+}
+
+/// Whether the word is a decimal within the limits of the format.
+fn is_decimal(word: &str) -> bool {
+    let (significand, exponent) = match word.split_once(['e', 'E']) {
+        Some((significand, exponent)) => (significand, unsigned(exponent)),
+        None => (word, "0"),
+    };
+    let (whole, behind) = match unsigned(significand).split_once('.') {
+        Some(parts) => parts,
+        None => (unsigned(significand), ""),
+    };
+    let digits = [whole, behind].concat();
+    if !is_digits(&digits) || !is_digits(exponent) {
+        return false;
+    }
+    let size: i64 = exponent.parse().unwrap_or(i64::MAX / 2);
+    let exponent = if word.contains("e-") || word.contains("E-") {
+        -size
+    } else {
+        size
+    };
+    let power = exponent - behind.len() as i64;
+    digits.trim_start_matches('0').len() <= DIGITS && power.abs() <= POWER
+}
+
+fn unsigned(text: &str) -> &str {
+    text.strip_prefix(['+', '-']).unwrap_or(text)
+}
+
+fn is_digits(text: &str) -> bool {
+    !text.is_empty() && text.bytes().all(|byte| byte.is_ascii_digit())
 }
 
 fn optional(word: &str) -> Option<Option<f64>> {

@@ -5,11 +5,12 @@
 //! two filters do different things. The rest of that run is left out, and counted.
 
 mod fields;
+mod words;
 
 use fields::{fields, Field};
 use std::collections::BTreeMap;
 use std::env;
-use std::io::{BufRead, BufReader, Lines};
+use std::io::{BufRead, BufReader};
 use std::process::{exit, Child, ChildStdout, Command, Stdio};
 
 const TOOLS: &str = "target/oracle";
@@ -45,21 +46,34 @@ fn main() {
         };
         follow(&mut tally, kind, seed, count);
     }
+    if tally.lines == 0 {
+        stop("nothing was compared");
+    }
     print(&tally);
 }
 
 fn follow(tally: &mut Tally, kind: &str, seed: &str, count: &str) {
-    let script = lines(start("scripts", &[kind, seed, count], Stdio::null()));
+    let drawn = || start("scripts", &[kind, seed, count], Stdio::null());
     let played = |name| {
-        let script = start("scripts", &[kind, seed, count], Stdio::null());
-        lines(start(name, &[], output(script).into()))
+        let mut script = drawn();
+        let oracle = start(name, &[], output(&mut script).into());
+        [script, oracle]
     };
-    let (own, port) = (played("own"), played("port"));
+    let mut script = drawn();
+    let ([own_script, mut own], [port_script, mut port]) = (played("own"), played("port"));
+    let calls = (1u64..).zip(lines(&mut script));
+    let (mut own_lines, mut port_lines) = (lines(&mut own), lines(&mut port));
     let mut together = true;
-    for (number, ((call, own), port)) in (1u64..).zip(script.zip(own).zip(port)) {
-        let [call, own, port] = [call, own, port]
-            .map(|line| line.unwrap_or_else(|error| stop(&format!("cannot read: {error}"))));
-        if call.starts_with("new ") {
+    for (number, call) in calls {
+        if words::is_silent(call.as_bytes()) {
+            continue;
+        }
+        let (Some(own), Some(port)) = (own_lines.next(), port_lines.next()) else {
+            stop(&format!(
+                "{kind}:{seed} line {number}: an oracle ended before this line"
+            ));
+        };
+        if words::first(&call) == "new" {
             together = true;
             tally.runs += 1;
         }
@@ -67,6 +81,14 @@ fn follow(tally: &mut Tally, kind: &str, seed: &str, count: &str) {
             let place = format!("{kind}:{seed} line {number}");
             together = tally.compare(&place, &call, &own, &port);
         }
+    }
+    if own_lines.next().is_some() || port_lines.next().is_some() {
+        stop(&format!(
+            "{kind}:{seed}: an oracle went on after the last line"
+        ));
+    }
+    for child in [script, own_script, own, port_script, port] {
+        end(child);
     }
 }
 
@@ -81,7 +103,7 @@ impl Tally {
         let (own, port) = (fields(own), fields(port));
         let parting = own.iter().zip(&port).find(|(a, b)| parts(a, b));
         if let Some((own, port)) = parting {
-            let word = call.split(' ').next().unwrap_or("");
+            let word = words::first(call);
             self.parted.push(format!(
                 "{place}, {word}: {} own {} port {}",
                 own.name(),
@@ -166,15 +188,25 @@ fn start(name: &str, arguments: &[&str], input: Stdio) -> Child {
         .unwrap_or_else(|error| stop(&format!("cannot start {name}: {error}")))
 }
 
-fn output(mut child: Child) -> ChildStdout {
+fn output(child: &mut Child) -> ChildStdout {
     child
         .stdout
         .take()
         .unwrap_or_else(|| stop("a program without output"))
 }
 
-fn lines(child: Child) -> Lines<BufReader<ChildStdout>> {
-    BufReader::with_capacity(1 << 16, output(child)).lines()
+fn lines(child: &mut Child) -> impl Iterator<Item = String> {
+    BufReader::with_capacity(1 << 16, output(child))
+        .lines()
+        .map(|line| line.unwrap_or_else(|error| stop(&format!("cannot read: {error}"))))
+}
+
+fn end(mut child: Child) {
+    match child.wait() {
+        Ok(status) if status.success() => (),
+        Ok(status) => stop(&format!("a program failed: {status}")),
+        Err(error) => stop(&format!("a program was lost: {error}")),
+    }
 }
 
 fn stop(message: &str) -> ! {

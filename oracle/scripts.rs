@@ -9,6 +9,7 @@ mod numbers;
 mod port_math;
 mod random;
 mod values;
+mod written;
 
 use limits::{Intervals, Range, Settings};
 use motion::{Motion, World, MOTIONS};
@@ -18,7 +19,7 @@ use std::io::{self, BufWriter, StdoutLock, Write};
 use std::process::exit;
 use values::Draw;
 
-const KINDS: [(&str, fn(&mut Script)); 16] = [
+const KINDS: [(&str, fn(&mut Script)); 18] = [
     ("still", |script| script.realistic(Motion::Still)),
     ("walking", |script| script.realistic(Motion::Walking)),
     ("trolley", |script| script.realistic(Motion::Trolley)),
@@ -35,6 +36,8 @@ const KINDS: [(&str, fn(&mut Script)); 16] = [
     ("covariance", Script::covariance),
     ("tiny", Script::tiny),
     ("numbers", Script::numbers),
+    ("written", Script::written),
+    ("spoiled", Script::spoiled),
 ];
 
 /// A state line comes after at most this many calls.
@@ -69,6 +72,8 @@ struct Script {
     random: Random,
     calls_left: u64,
     state_in: u64,
+    /// Whether calls are written as a person writes them.
+    by_hand: bool,
 }
 
 /// How the samples of a run are drawn.
@@ -93,6 +98,7 @@ impl Script {
             random,
             calls_left: count,
             state_in: CALLS_BETWEEN_STATES,
+            by_hand: false,
         }
     }
 
@@ -106,7 +112,17 @@ impl Script {
     }
 
     fn line(&mut self, line: &str) {
-        if writeln!(self.out, "{line}").is_err() {
+        match self.by_hand {
+            true => {
+                let text = written::call(line, &mut self.random);
+                self.text(&text);
+            }
+            false => self.text(&format!("{line}\n")),
+        }
+    }
+
+    fn text(&mut self, text: &str) {
+        if self.out.write_all(text.as_bytes()).is_err() {
             exit(0);
         }
     }
@@ -555,6 +571,46 @@ impl Script {
                     self.bias(draw);
                 }
             }
+        }
+    }
+
+    // Scripts as a person writes them.
+
+    /// Parts of the other kinds, by hand, and roots of any decimals.
+    fn written(&mut self) {
+        self.by_hand = true;
+        let mut left = self.calls_left;
+        while left > 0 {
+            let part = left.min(20 + self.random.below(400));
+            self.calls_left = part;
+            let write = self.random.pick(&[
+                |script: &mut Self| script.realistic(Motion::Walking),
+                |script: &mut Self| script.realistic(Motion::Shelf),
+                Self::setters,
+                Self::limits,
+                Self::edges,
+                Self::numbers,
+                Self::decimals,
+            ]);
+            write(self);
+            left -= part;
+        }
+    }
+
+    fn decimals(&mut self) {
+        while self.wanted() {
+            let text = format!("sqrt {}", written::any_decimal(&mut self.random));
+            self.line(&text);
+            self.calls_left -= 1;
+        }
+    }
+
+    /// Lines next to the edge of the format. The first one past it ends the run.
+    fn spoiled(&mut self) {
+        while self.wanted() {
+            let text = written::edge(&mut self.random);
+            self.text(&text);
+            self.calls_left -= 1;
         }
     }
 

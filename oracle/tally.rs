@@ -2,6 +2,7 @@
 
 use std::collections::BTreeMap;
 use std::io::{self, BufRead};
+use std::process::exit;
 
 const ANSWERS: usize = 7;
 const UPDATE_PARTS: [&str; 3] = ["upd gyr", "upd acc", "upd mag"];
@@ -17,9 +18,13 @@ fn main() -> io::Result<()> {
                     count(&mut counts, part, answer);
                 }
             }
+            ["bad", number] => stop(&format!("line {number} of a script is no call")),
             [word, answer] => count(&mut counts, word, answer),
             _ => (),
         }
+    }
+    if counts.is_empty() {
+        stop("no answer was counted");
     }
     print(&counts);
     Ok(())
@@ -49,4 +54,9 @@ fn print(counts: &BTreeMap<String, [u64; ANSWERS]>) {
 fn row(word: &str, answers: &[u64; ANSWERS]) {
     let cells: Vec<String> = answers.iter().map(u64::to_string).collect();
     println!("| {word} | {} |", cells.join(" | "));
+}
+
+fn stop(message: &str) -> ! {
+    eprintln!("tally: {message}");
+    exit(1);
 }

@@ -1,2 +1,3 @@
 #include <stdint.h>
 #define PRIx64 "lx"
+#define PRIu32 "u"

@@ -1,1 +1,5 @@
+#ifndef PLAIN_STDDEF_H
+#define PLAIN_STDDEF_H
 typedef unsigned long size_t;
+#define NULL ((void *)0)
+#endif

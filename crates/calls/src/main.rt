@@ -1,15 +1,13 @@
-// Plays a call script from the standard input and writes its answers to the standard output. A line
-// that is no call writes `bad` and its number, and ends the run.
-mod construction;
+// Plays a call script and prints each answer and each stored number by its bits. A line that is no
+// call writes `bad` and its number, says on the error stream what is wrong, and ends the run.
+mod complaint;
 mod input;
-mod math;
 mod output;
-mod request;
 mod state;
 
-use crate::construction::built;
-use crate::input::Line;
-use crate::input::read_line;
+use crate::complaint::complain;
+use crate::input::is_left;
+use crate::input::next;
 use crate::output::flush;
 use crate::output::put;
 use crate::output::put_answer;
@@ -18,44 +16,20 @@ use crate::output::put_number;
 use crate::output::put_text;
 use crate::output::put_three_answers;
 use crate::output::put_word;
-use crate::request::Call;
-use crate::request::Request;
-use crate::request::Samples;
-use crate::request::asked;
 use crate::state::put_answers;
 use crate::state::put_state;
-use vqf::Updated;
+use script::Call;
+use script::Fault;
+use script::Reader;
+use script::Request;
+use script::Samples;
 use vqf::VQF;
 
-fn outcome(f: VQF, call: Call) -> Updated {
-    match call {
-        Call::Gyr(v) => f.update_gyr(v),
-        Call::GyrWithTs(v, ts) => f.update_gyr_with_ts(v, ts),
-        Call::Acc(v) => f.update_acc(v),
-        Call::Mag(v) => f.update_mag(v),
-        Call::TauAcc(tau) => f.set_tau_acc(tau),
-        Call::TauMag(tau) => f.set_tau_mag(tau),
-        Call::Motion(on) => f.set_motion_bias_est_enabled(on),
-        Call::Rest(on) => f.set_rest_bias_est_enabled(on),
-        Call::Dist(on) => f.set_mag_dist_rejection_enabled(on),
-        Call::Thresholds(gyr, acc) => f.set_rest_detection_thresholds(gyr, acc),
-        Call::Bias(v, sigma) => f.set_bias_estimate(v, sigma),
-        Call::MagRef(norm, dip) => f.set_mag_ref(norm, dip),
-        Call::Reset => f.reset_state(),
-    }
-}
-
 fn called(f: VQF, call: Call, out: &mut [u8; 65536], to: &mut usize) -> VQF {
-    let u = outcome(f, call);
+    let u = script::called(f, call);
     let answer = u.answer;
     put_answer(out, to, answer);
-    u.filter
-}
-
-fn constructed(line: Line, out: &mut [u8; 65536], to: &mut usize) -> VQF {
-    let u = built(line);
-    let answer = u.answer;
-    put_answer(out, to, answer);
+    put(out, to, b'\n');
     u.filter
 }
 
@@ -68,72 +42,100 @@ fn updated(f: VQF, s: Samples, out: &mut [u8; 65536], to: &mut usize) -> VQF {
     let acc_answer = u.acc;
     let mag_answer = u.mag;
     put_three_answers(out, to, gyr_answer, acc_answer, mag_answer);
+    put(out, to, b'\n');
     u.filter
 }
 
-// Writes what a line is answered behind its first word, and hands back the next filter.
-fn answered(f: VQF, request: Request, line: Line, out: &mut [u8; 65536], to: &mut usize) -> VQF {
+fn put_bad(number: u64, fault: Fault, out: &mut [u8; 65536], to: &mut usize) {
+    put_text(out, to, b"bad ");
+    put_decimal(out, to, number);
+    put(out, to, b'\n');
+    complain(b"calls", number, fault);
+}
+
+// Writes what a line is answered, and hands back the next filter.
+fn answered(
+    f: VQF,
+    request: Request,
+    name: u64,
+    number: u64,
+    out: &mut [u8; 65536],
+    to: &mut usize,
+) -> VQF {
     match request {
-        Request::None => f,
+        Request::Nothing => f,
+        Request::Bad(fault) => {
+            put_bad(number, fault, out, to);
+            f
+        }
         Request::Value(x) => {
+            put_word(out, to, name);
             put_number(out, to, x);
+            put(out, to, b'\n');
             f
         }
         Request::State => {
+            put(out, to, b'=');
             put_state(out, to, f);
+            put(out, to, b'\n');
             f
         }
         Request::Get => {
+            put(out, to, b'?');
             put_answers(out, to, f);
+            put(out, to, b'\n');
             f
         }
-        Request::New => constructed(line, out, to),
-        Request::Update(samples) => updated(f, samples, out, to),
-        Request::Call(call) => called(f, call, out, to),
+        Request::Update(samples) => {
+            put_word(out, to, name);
+            updated(f, samples, out, to)
+        }
+        Request::Call(call) => {
+            put_word(out, to, name);
+            called(f, call, out, to)
+        }
     }
 }
 
-// The first word of an answer: that of the line, but for the state and the answers.
-fn put_head(request: Request, name: u64, out: &mut [u8; 65536], to: &mut usize) {
+fn is_bad(request: Request) -> bool {
     match request {
-        Request::State => put(out, to, b'='),
-        Request::Get => put(out, to, b'?'),
-        _ => put_word(out, to, name),
-    }
-}
-
-fn is_none(request: Request) -> bool {
-    match request {
-        Request::None => true,
+        Request::Bad(_) => true,
         _ => false,
     }
 }
 
-fn put_bad(out: &mut [u8; 65536], to: &mut usize, number: u64) {
-    put_text(out, to, b"bad ");
-    put_decimal(out, to, number);
-    put(out, to, b'\n');
+fn after(number: u64) -> u64 {
+    if number < u64::MAX {
+        number + 1
+    } else {
+        number
+    }
 }
 
-// A proved loop has to end, and nothing says that the input does: no run has as many lines as a
+// A proved loop has to end, and nothing says that the input does: no run has as many bytes as a
 // number can count.
 fn play(buf: &mut [u8; 65536], out: &mut [u8; 65536], to: &mut usize) {
     let mut at = 0usize;
     let mut end = 0usize;
+    let mut number = 1u64;
     let mut filter = VQF::fresh();
-    for number in 1..u64::MAX {
-        let line = read_line(buf, &mut at, &mut end);
-        if line.ended {
+    let mut reader = Reader::START;
+    for turn in 0..u64::MAX {
+        let more = is_left(buf, &mut at, &mut end);
+        reader = reader.with(next(buf, &mut at, end));
+        if reader.is_ended {
+            let line = reader.line;
+            let request = line.request();
+            filter = answered(filter, request, line.name, number, out, to);
+            if is_bad(request) {
+                return;
+            }
+            number = after(number);
+            reader = Reader::START;
+        }
+        if !more {
             return;
         }
-        let request = asked(line);
-        if is_none(request) {
-            put_bad(out, to, number);
-            return;
-        }
-        put_head(request, line.name, out, to);
-        filter = answered(filter, request, line, out, to);
-        put(out, to, b'\n');
     }
 }
 

@@ -1,19 +1,14 @@
--- A loop that counts lines up to the largest number.
-use Prim.Native.Nat.{_-_, _≤_, _<_}
+-- A loop that counts bytes up to the largest number.
+use Prim.Native.Nat.{_-_, _≤_}
 use borrow.Author.Needs.{needs}
-use native.Mathlib.Omega.{arith}
 use Rattle.calls.proofs.play.Statement.{statement}
 use Rattle.calls.proofs.play.Tie as tie
 
 abbrev Inv-loop : tie.InvT-loop
-Inv-loop buf₀ out₀ to₀ at₀ end₀ filter₀ number₀ buf out to at end filter number = (end ≤ 65536) × (number ≤ 18446744073709551615)
+Inv-loop buf₀ out₀ to₀ at₀ end₀ number₀ filter₀ reader₀ turn₀ buf out to at end number filter reader turn = (end ≤ 65536) × (turn ≤ 18446744073709551615)
 
 abbrev μ-loop : tie.MeasureT-loop
-μ-loop buf₀ out₀ to₀ at₀ end₀ filter₀ number₀ buf out to at end filter number = 18446744073709551615 - number
-
--- what the loop's test says, at the end of a turn
-below : (c : tie.After-put Inv-loop μ-loop) → c .before .before .before .before .before .before .before .before .before .before .before .before .before .before .before .before .before .before .loop .number < 18446744073709551615
-below c = c .before .before .before .before .before .before .before .before .before .before .before .before .before .before .before .before .before .loop-test .taken
+μ-loop buf₀ out₀ to₀ at₀ end₀ number₀ filter₀ reader₀ turn₀ buf out to at end number filter reader turn = 18446744073709551615 - turn
 
 fresh-requires : tie.Need-fresh-requires Inv-loop μ-loop
 fresh-requires c κs = search needs
@@ -21,41 +16,41 @@ fresh-requires c κs = search needs
 loop-holds : tie.Need-loop-holds Inv-loop μ-loop
 loop-holds c = search needs
 
-read-line-requires : tie.Need-read-line-requires Inv-loop μ-loop
-read-line-requires c κs = search needs
+is-left-requires : tie.Need-is-left-requires Inv-loop μ-loop
+is-left-requires c κs = search needs
 
-returns : tie.Need-returns Inv-loop μ-loop
-returns c = search needs
+next-requires : tie.Need-next-requires Inv-loop μ-loop
+next-requires c κs = search needs
 
-asked-requires : tie.Need-asked-requires Inv-loop μ-loop
-asked-requires c κs = search needs
+with-requires : tie.Need-with-requires Inv-loop μ-loop
+with-requires c κs = search needs
 
-is-none-requires : tie.Need-is-none-requires Inv-loop μ-loop
-is-none-requires c κs = search needs
-
-put-bad-requires : tie.Need-put-bad-requires Inv-loop μ-loop
-put-bad-requires c κs = search needs
-
-returns-2 : tie.Need-returns-2 Inv-loop μ-loop
-returns-2 c = search needs
-
-put-head-requires : tie.Need-put-head-requires Inv-loop μ-loop
-put-head-requires c κs = search needs
+request-requires : tie.Need-request-requires Inv-loop μ-loop
+request-requires c κs = search needs
 
 answered-requires : tie.Need-answered-requires Inv-loop μ-loop
 answered-requires c κs = search needs
 
-put-requires : tie.Need-put-requires Inv-loop μ-loop
-put-requires c κs = search needs
+is-bad-requires : tie.Need-is-bad-requires Inv-loop μ-loop
+is-bad-requires c κs = search needs
 
-add-number : tie.Need-add-number Inv-loop μ-loop
-add-number c = omega (arith, below c)
+returns : tie.Need-returns Inv-loop μ-loop
+returns c = search needs
+
+after-requires : tie.Need-after-requires Inv-loop μ-loop
+after-requires c κs = search needs
+
+returns-2 : tie.Need-returns-2 Inv-loop μ-loop
+returns-2 c = search needs
+
+add-turn : tie.Need-add-turn Inv-loop μ-loop
+add-turn c = search needs
 
 loop-less : tie.Need-loop-less Inv-loop μ-loop
-loop-less c = omega (arith, below c)
+loop-less c = search needs
 
 loop-again : tie.Need-loop-again Inv-loop μ-loop
-loop-again c = omega (arith, below c)
+loop-again c = search needs
 
 returns-3 : tie.Need-returns-3 Inv-loop μ-loop
 returns-3 c = search needs
@@ -68,16 +63,16 @@ play-spec =
     μ-loop
     fresh-requires
     loop-holds
-    read-line-requires
-    returns
-    asked-requires
-    is-none-requires
-    put-bad-requires
-    returns-2
-    put-head-requires
+    is-left-requires
+    next-requires
+    with-requires
+    request-requires
     answered-requires
-    put-requires
-    add-number
+    is-bad-requires
+    returns
+    after-requires
+    returns-2
+    add-turn
     loop-less
     loop-again
     returns-3)

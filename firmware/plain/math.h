@@ -1,0 +1,1 @@
+double atan2(double y, double x);
