@@ -1,6 +1,7 @@
 # Reads [-n COUNT] [-s SEED|FROM-TO]... [KIND]... into count, seeds and kinds, and goes to the
-# repository's root. COUNT is above $least, 0 unless a command sets it; a command with fewer
-# options says so in $options. Whatever is none of these ends the command with one line and exit status 2.
+# repository's root. COUNT is above $least, 0 unless a command sets it; a command with other
+# options says so in $options. -u sets unamended: the source as it is stands in for the one with
+# the lines that the rules amend. Whatever is none of these ends the command with one line and exit status 2.
 cd "$(dirname "${BASH_SOURCE[0]}")/.."
 out=target/oracle
 least=${least:-0}
@@ -40,10 +41,12 @@ check_kinds() {
 }
 
 seeds=()
+unamended=
 while getopts ":${options-n:s:}" option; do
     case $option in
     n) read_count "$OPTARG" ;;
     s) read_seeds "$OPTARG" ;;
+    u) unamended=unamended ;;
     :) stop "-$OPTARG has no value" ;;
     *) stop "there is no option -$OPTARG" ;;
     esac

@@ -1,5 +1,5 @@
-//! gaps COUNT KIND:SEED..: plays scripts through the oracle with its own math and through the
-//! one with the port's, and reports how far each stored quantity goes apart.
+//! gaps own|unamended COUNT KIND:SEED..: plays scripts through that oracle and through the port's,
+//! and reports how far each stored quantity goes apart.
 //!
 //! A run is followed from its `new` until an answer, a flag or a phase differs: from there the
 //! two filters do different things. The rest of that run is left out, and counted.
@@ -31,20 +31,23 @@ struct Tally {
     gaps: BTreeMap<(&'static str, &'static str), Gap>,
     lines: u64,
     runs: u64,
+    differing: u64,
+    /// Whether the present run has been alike so far.
+    alike: bool,
     parted: Vec<String>,
 }
 
 fn main() {
     let arguments: Vec<String> = env::args().skip(1).collect();
-    let Some((count, scripts)) = arguments.split_first().filter(|a| !a.1.is_empty()) else {
-        stop("usage: gaps COUNT KIND:SEED..");
+    let [other, count, scripts @ ..] = arguments.as_slice() else {
+        stop("usage: gaps own|unamended COUNT KIND:SEED..");
     };
     let mut tally = Tally::default();
     for script in scripts {
         let Some((kind, seed)) = script.split_once(':') else {
             stop(&format!("{script} is not KIND:SEED"));
         };
-        follow(&mut tally, kind, seed, count);
+        follow(&mut tally, other, kind, seed, count);
     }
     if tally.lines == 0 {
         stop("nothing was compared");
@@ -52,7 +55,7 @@ fn main() {
     print(&tally);
 }
 
-fn follow(tally: &mut Tally, kind: &str, seed: &str, count: &str) {
+fn follow(tally: &mut Tally, other: &str, kind: &str, seed: &str, count: &str) {
     let drawn = || start("scripts", &[kind, seed, count], Stdio::null());
     let played = |name| {
         let mut script = drawn();
@@ -60,15 +63,15 @@ fn follow(tally: &mut Tally, kind: &str, seed: &str, count: &str) {
         [script, oracle]
     };
     let mut script = drawn();
-    let ([own_script, mut own], [port_script, mut port]) = (played("own"), played("port"));
+    let ([other_script, mut other], [port_script, mut port]) = (played(other), played("port"));
     let calls = (1u64..).zip(lines(&mut script));
-    let (mut own_lines, mut port_lines) = (lines(&mut own), lines(&mut port));
+    let (mut other_lines, mut port_lines) = (lines(&mut other), lines(&mut port));
     let mut together = true;
     for (number, call) in calls {
         if words::is_silent(call.as_bytes()) {
             continue;
         }
-        let (Some(own), Some(port)) = (own_lines.next(), port_lines.next()) else {
+        let (Some(other), Some(port)) = (other_lines.next(), port_lines.next()) else {
             stop(&format!(
                 "{kind}:{seed} line {number}: an oracle ended before this line"
             ));
@@ -76,62 +79,65 @@ fn follow(tally: &mut Tally, kind: &str, seed: &str, count: &str) {
         if words::first(&call) == "new" {
             together = true;
             tally.runs += 1;
+            tally.alike = true;
         }
         if together {
             let place = format!("{kind}:{seed} line {number}");
-            together = tally.compare(&place, &call, &own, &port);
+            together = tally.compare(&place, &call, &other, &port);
         }
     }
-    if own_lines.next().is_some() || port_lines.next().is_some() {
+    if other_lines.next().is_some() || port_lines.next().is_some() {
         stop(&format!(
             "{kind}:{seed}: an oracle went on after the last line"
         ));
     }
-    for child in [script, own_script, own, port_script, port] {
+    for child in [script, other_script, other, port_script, port] {
         end(child);
     }
 }
 
 impl Tally {
     /// False where the two filters part.
-    fn compare(&mut self, place: &str, call: &str, own: &str, port: &str) -> bool {
+    fn compare(&mut self, place: &str, call: &str, other: &str, port: &str) -> bool {
         self.lines += 1;
-        if own == port {
+        if other == port {
             return true;
         }
-        let group = group(own);
-        let (own, port) = (fields(own), fields(port));
-        let parting = own.iter().zip(&port).find(|(a, b)| parts(a, b));
-        if let Some((own, port)) = parting {
+        self.differing += u64::from(self.alike);
+        self.alike = false;
+        let group = group(other);
+        let (other, port) = (fields(other), fields(port));
+        let parting = other.iter().zip(&port).find(|(a, b)| parts(a, b));
+        if let Some((other, port)) = parting {
             let word = words::first(call);
             self.parted.push(format!(
-                "{place}, {word}: {} own {} port {}",
-                own.name(),
-                own.word,
+                "{place}, {word}: {} {} and {}",
+                other.name(),
+                other.word,
                 port.word
             ));
             return false;
         }
-        for (own, port) in own.iter().zip(&port) {
-            self.widen(group, place, own, port);
+        for (other, port) in other.iter().zip(&port) {
+            self.widen(group, place, other, port);
         }
         true
     }
 
-    fn widen(&mut self, group: &'static str, place: &str, own: &Field, port: &Field) {
-        let (Some(a), Some(b)) = (own.value(), port.value()) else {
+    fn widen(&mut self, group: &'static str, place: &str, other: &Field, port: &Field) {
+        let (Some(a), Some(b)) = (other.value(), port.value()) else {
             return;
         };
         if a.is_nan() && b.is_nan() {
             return;
         }
-        let absolute = apart(own.quantity, a, b);
+        let absolute = apart(other.quantity, a, b);
         let relative = absolute / a.abs().max(b.abs()).max(f64::MIN_POSITIVE);
-        let gap = self.gaps.entry((group, own.quantity)).or_default();
+        let gap = self.gaps.entry((group, other.quantity)).or_default();
         gap.relative = gap.relative.max(relative);
         if absolute > gap.absolute {
             gap.absolute = absolute;
-            gap.place = format!("{place}, {}: {a:e} and {b:e}", own.name());
+            gap.place = format!("{place}, {}: {a:e} and {b:e}", other.name());
         }
     }
 }
@@ -149,8 +155,8 @@ fn group(line: &str) -> &'static str {
 }
 
 /// Flags, phases and answers are no 16 digits.
-fn parts(own: &Field, port: &Field) -> bool {
-    own.word != port.word && (own.value().is_none() || port.value().is_none())
+fn parts(other: &Field, port: &Field) -> bool {
+    other.word != port.word && (other.value().is_none() || port.value().is_none())
 }
 
 fn apart(quantity: &str, a: f64, b: f64) -> f64 {
@@ -162,7 +168,10 @@ fn apart(quantity: &str, a: f64, b: f64) -> f64 {
 }
 
 fn print(tally: &Tally) {
-    println!("{} lines, {} runs", tally.lines, tally.runs);
+    println!(
+        "{} lines, {} runs, {} of them with a line that differs",
+        tally.lines, tally.runs, tally.differing
+    );
     println!("| | quantity | largest gap | largest relative gap | where the largest gap is |");
     println!("|---|---|---|---|---|");
     let (alike, apart): (Vec<_>, Vec<_>) =

@@ -155,8 +155,14 @@ fn sum(a: [f64; 3], b: [f64; 3]) -> [f64; 3] {
     [a[0] + b[0], a[1] + b[1], a[2] + b[2]]
 }
 
-fn scaled(v: [f64; 3], factor: f64) -> [f64; 3] {
+pub fn scaled(v: [f64; 3], factor: f64) -> [f64; 3] {
     v.map(|component| factor * component)
+}
+
+pub fn of_length_one(v: [f64; 3]) -> [f64; 3] {
+    let [x, y, z] = v;
+    let length = port_math::sqrt(x * x + y * y + z * z);
+    v.map(|component| component / length)
 }
 
 fn product(a: [f64; 4], b: [f64; 4]) -> [f64; 4] {

@@ -1,5 +1,6 @@
-//! patch SOURCE own|port OUT: the source, made ready for the driver. Each patch must match
-//! exactly once, or nothing is written.
+//! patch SOURCE own|port amended|unamended OUT: the source, made ready for the driver, with its own
+//! math or the port's, and with the lines that the rules amend or as they are. Each patch must
+//! match exactly once, or nothing is written.
 
 use std::env;
 use std::fs;
@@ -10,6 +11,12 @@ const COPYABLE: (&str, &str) = (
     "#[derive(Clone, Copy)]\npub struct VQF {",
 );
 
+/// What the rules ask for in the place of what the source does.
+const AMENDMENTS: [(&str, &str); 1] = [
+    // The correction close to a half turn.
+    ("[0.0, 1.0, 0.0, 1.0].into()", "[0.0, 1.0, 0.0, 0.0].into()"),
+];
+
 const MATH_OPENS: &str = "#[cfg(any(feature = \"std\", feature = \"micromath\"))]\nmod math {\n";
 const MATH_CLOSES: &str = "\n}\n\n#[cfg(feature = \"libm\")]\nmod math {\n";
 /// From the patched copy in `target/oracle`.
@@ -17,8 +24,8 @@ const PORT_MATH: &str = "#[path = \"../../oracle/port_math.rs\"]\npub mod math;\
 
 fn main() {
     let arguments: Vec<String> = env::args().skip(1).collect();
-    let [source, math, out] = arguments.as_slice() else {
-        stop("usage: patch SOURCE own|port OUT");
+    let [source, math, lines, out] = arguments.as_slice() else {
+        stop("usage: patch SOURCE own|port amended|unamended OUT");
     };
     let text = fs::read_to_string(source)
         .unwrap_or_else(|error| stop(&format!("cannot read the source {source}: {error}")));
@@ -28,7 +35,18 @@ fn main() {
         "port" => replace_math(&text),
         _ => stop("the second argument is own or port"),
     };
+    let text = match lines.as_str() {
+        "amended" => amend(text),
+        "unamended" => text,
+        _ => stop("the third argument is amended or unamended"),
+    };
     fs::write(out, text).unwrap_or_else(|error| stop(&format!("cannot write {out}: {error}")));
+}
+
+fn amend(text: String) -> String {
+    AMENDMENTS
+        .iter()
+        .fold(text, |text, (old, new)| replace_once(&text, old, new))
 }
 
 fn replace_math(text: &str) -> String {

@@ -12,20 +12,21 @@ mod values;
 mod written;
 
 use limits::{Intervals, Range, Settings};
-use motion::{Motion, World, MOTIONS};
+use motion::{scaled, Motion, World, MOTIONS};
 use random::Random;
 use std::env;
 use std::io::{self, BufWriter, StdoutLock, Write};
 use std::process::exit;
 use values::Draw;
 
-const KINDS: [(&str, fn(&mut Script)); 18] = [
+const KINDS: [(&str, fn(&mut Script)); 19] = [
     ("still", |script| script.realistic(Motion::Still)),
     ("walking", |script| script.realistic(Motion::Walking)),
     ("trolley", |script| script.realistic(Motion::Trolley)),
     ("shelf", |script| script.realistic(Motion::Shelf)),
     ("turns", |script| script.realistic(Motion::Turns)),
     ("steel", Script::steel),
+    ("facedown", Script::face_down),
     ("setters", Script::setters),
     ("limits", Script::limits),
     ("edges", Script::edges),
@@ -215,20 +216,7 @@ impl Script {
 
     /// House intervals or usual ones, house settings or settings near them.
     fn realistic_filter(&mut self) -> Intervals {
-        let usual = [0.005, 0.01, 0.02];
-        let house = Intervals {
-            gyr: limits::HOUSE_INTERVAL,
-            acc: limits::HOUSE_INTERVAL,
-            mag: limits::HOUSE_INTERVAL,
-        };
-        let ts = match self.random.below(3) {
-            0 => Intervals {
-                gyr: self.random.pick(&usual),
-                acc: self.random.pick(&usual),
-                mag: self.random.pick(&[0.01, 0.02, 0.05]),
-            },
-            _ => house,
-        };
+        let ts = self.realistic_intervals();
         if self.random.one_in(3) {
             self.construct(ts, [false; 2], None);
         } else {
@@ -236,6 +224,23 @@ impl Script {
             self.construct(ts, [false; 2], Some(&settings));
         }
         ts
+    }
+
+    fn realistic_intervals(&mut self) -> Intervals {
+        let usual = [0.005, 0.01, 0.02];
+        let house = Intervals {
+            gyr: limits::HOUSE_INTERVAL,
+            acc: limits::HOUSE_INTERVAL,
+            mag: limits::HOUSE_INTERVAL,
+        };
+        match self.random.below(3) {
+            0 => Intervals {
+                gyr: self.random.pick(&usual),
+                acc: self.random.pick(&usual),
+                mag: self.random.pick(&[0.01, 0.02, 0.05]),
+            },
+            _ => house,
+        }
     }
 
     /// Feeds what the sensors say, each at its interval, or as `update` where they are equal.
@@ -336,6 +341,102 @@ impl Script {
             self.call_text(&format!("bias{} -", values::words(&bias)));
         } else {
             self.call("bias", &[bias[0], bias[1], bias[2], sigma]);
+        }
+    }
+
+    // Readers laid face down.
+
+    /// The acceleration points away from what the filter takes for up, or next to that, so that the
+    /// correction is a half turn or next to one: in the first samples, while the low-pass filter
+    /// averages, and once it runs.
+    fn face_down(&mut self) {
+        while self.wanted() {
+            let ts = self.realistic_intervals();
+            let samples_in_tau = self.random.pick(&[5, 5, 20, 100]);
+            let settled = 2 * samples_in_tau;
+            let mut settings = values::near_house(ts, &mut self.random);
+            settings[limits::place("tau_acc")] = samples_in_tau as f64 * ts.acc;
+            self.construct(ts, [false; 2], Some(&settings));
+            match self.random.below(8) {
+                0 => self.turn_over_slowly(ts, settled),
+                1 | 2 => self.turn_over(ts, settled),
+                _ => {
+                    let before = self.random.pick(&[0, 0, 1, 3]);
+                    self.turn_over(ts, before);
+                }
+            }
+            self.steady([0.0, 0.0, -9.81], 3);
+        }
+    }
+
+    /// A settled reader is laid face down, and the filtered acceleration follows.
+    fn turn_over_slowly(&mut self, ts: Intervals, settled: u64) {
+        self.swing(ts);
+        let up = self.upward();
+        self.steady(scaled(up, 9.81), settled);
+        self.steady(scaled(up, -9.81), settled);
+    }
+
+    /// So many samples along what is then up, and one that outweighs them against it.
+    fn turn_over(&mut self, ts: Intervals, before: u64) {
+        // A fresh filter takes the sensor's third axis for up.
+        let up = if before == 0 {
+            [0.0, 0.0, 1.0]
+        } else {
+            self.swing(ts);
+            self.upward()
+        };
+        let light = self.random.log_between(1e-9, 1e-7);
+        let heavy = self.random.between(1.0, 900.0);
+        self.steady(scaled(up, light), before);
+        let lean = self.leaning(up);
+        self.steady([0, 1, 2].map(|i| heavy * (lean[i] - up[i])), 1);
+        self.show();
+    }
+
+    /// The gyroscope turns the reader, most often.
+    fn swing(&mut self, ts: Intervals) {
+        for _ in 0..self.random.below(4) {
+            let gyr = self.random.noise_vector(20.0);
+            self.gyr(gyr, ts.gyr);
+        }
+    }
+
+    fn upward(&mut self) -> [f64; 3] {
+        let drawn = self.random.noise_vector(1.0);
+        let axes = [[0.0, 0.0, 1.0], [0.0, 0.0, -1.0], [1.0, 0.0, 0.0], drawn];
+        motion::of_length_one(self.random.pick(&axes))
+    }
+
+    /// What is added to a vector of length 1 to tilt it, most often about as far as the source tells
+    /// a half turn from others: there (z + 1) / 2 is 1e-12, and z is 2^-53 times 18014.4 above -1.
+    fn leaning(&mut self, up: [f64; 3]) -> [f64; 3] {
+        let steps = match self.random.below(4) {
+            0 => 0.0,
+            1 => self.random.between(0.0, 40000.0),
+            _ => self.random.between(18012.0, 18017.0),
+        };
+        let angle = port_math::sqrt(steps * f64::EPSILON);
+        let [x, y, z] = self.random.noise_vector(1.0);
+        let across = [
+            y * up[2] - z * up[1],
+            z * up[0] - x * up[2],
+            x * up[1] - y * up[0],
+        ];
+        scaled(motion::of_length_one(across), angle)
+    }
+
+    /// The same acceleration again and again, by a reader that does not turn.
+    fn steady(&mut self, acc: [f64; 3], count: u64) {
+        for _ in 0..count {
+            match self.random.below(8) {
+                0 => self.update([0.0; 3], acc, [0.0, 20.0, -40.0]),
+                1 => {
+                    self.call("gyr", &[0.0; 3]);
+                    self.call("acc", &acc);
+                }
+                _ => self.call("acc", &acc),
+            }
         }
     }
 

@@ -1,3 +1,4 @@
+pub mod HalfTurn
 pub mod Construction
 pub mod RestHistory
 pub mod Tested

@@ -100,13 +100,13 @@ module _ (w : Format) where
         «last_acc_corr_angular_rate» = i .«last_acc_corr_angular_rate»;
       }
 
-  -- close to a half turn the source gives (0, 1, 0, 1)
+  -- close to a half turn: one about the first axis, where the source has (0, 1, 0, 1)
   unfoldable pub acc-correction : Vector → Quaternion
   acc-correction v =
       let q-w = root w ((v .2 ⊕ one w) ⊘ two w) in
       cond (lt (millionth w) q-w)
       (quaternion q-w (half w ⊗ v .1 ⊘ q-w) (neg (half w) ⊗ v .0 ⊘ q-w) (zero w))
-      (quaternion (zero w) (one w) (zero w) (one w))
+      (quaternion (zero w) (one w) (zero w) (zero w))
 
   unfoldable pub inclined : Inclination → Float → Float → Coeffs → Vector → TriedInclination
   inclined i tau ts k acc =

@@ -2,6 +2,7 @@ pub mod Told
 pub mod Gyr
 pub mod Kalman
 pub mod Acc
+pub mod HalfTurn
 pub mod Setup
 pub mod Setters
 pub mod Decimals

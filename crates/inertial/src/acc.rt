@@ -110,7 +110,7 @@ fn acc_correction(acc_earth: Vector) -> Quaternion
     if q_w > 0.000001 {
         Quaternion(q_w, 0.5 * acc_earth.1 / q_w, -0.5 * acc_earth.0 / q_w, 0.0)
     } else {
-        Quaternion(0.0, 1.0, 0.0, 1.0)
+        Quaternion(0.0, 1.0, 0.0, 0.0)
     }
 }
 

@@ -3,6 +3,7 @@ use Rattle.numbers.proofs.RootLaws.{root-meets, root-only}
 use Rattle.numbers.proofs.Ranges.{ranges}
 use Rattle.filters.proofs.Bounds.{bounds}
 use Rattle.filters.proofs.InStep.{stay-in-step}
+use Rattle.inertial.proofs.HalfTurn.{half-turn}
 use Rattle.vqf.specs.Theorems.{Theorems}
 use Rattle.vqf.proofs.ByTable.{answers}
 use Rattle.vqf.proofs.Refused.{refused}
@@ -22,6 +23,7 @@ theorems = record {
   answers-finite = answers-finite;
   apart = apart;
   rest-from-history = rest-from-history;
+  half-turn = half-turn;
   root-meets = root-meets;
   root-only = root-only;
   ranges = ranges;

@@ -4,6 +4,7 @@ use Rattle.numbers.specs.Root.{Meets, Only}
 use Rattle.numbers.specs.Ranges.{Ranges}
 use Rattle.filters.specs.Bounds.{Bounds}
 use Rattle.filters.specs.InStep.{StayInStep}
+use Rattle.inertial.specs.HalfTurn.{HalfTurn}
 use Rattle.vqf.specs.Answers.{Answers}
 use Rattle.vqf.specs.Refused.{Refused}
 use Rattle.vqf.specs.Construction.{Construction}
@@ -30,6 +31,9 @@ pub record Theorems : Type 0 where
   pub apart : (w : Format) → Apart w
   -- rest is reported exactly when the construction, the calls and their answers tell it
   pub rest-from-history : (w : Format) → RestFromHistory w
+  -- ---- What points down comes up.
+  -- next to a half turn the correction carries straight down to straight up, and what is near to it near to that
+  pub half-turn : (w : Format) → HalfTurn w
   -- ---- The numbers below.
   -- the square root is the nearest value of its format, and nothing else is
   pub root-meets : (w : Format) → Meets w

@@ -1,4 +1,4 @@
--- The worked values of document 01 that are marked P, each below its line. Numbers are binary64; the calls are made on the fresh house filter.
+-- The worked values of document 01 that are marked P, and the one that document 02 changed, each below its line. Numbers are binary64; the calls are made on the fresh house filter.
 use mathlib.Core.Path.{_≡_}
 use mathlib.Core.List.{[], _∷_}
 use Prim.Native.Nat.{_+_, _^_}
@@ -17,6 +17,7 @@ use Rattle.filters.specs.declared.coeffs.Coeffs.{Coeffs}
 use Rattle.vqf.specs.Build as build
 use Rattle.vqf.specs.Update.{update-gyr, update-gyr-with-ts, update-acc}
 use Rattle.vqf.specs.Setters.{set-tau-acc}
+use Rattle.vqf.specs.Asked.{quat-6d}
 use Rattle.vqf.specs.declared.types.VQF.{VQF}
 
 abbrev house : VQF
@@ -55,6 +56,12 @@ pub record Worked : Type 0 where
   pub no-interval : update-gyr-with-ts binary64 house (vector (whole 1) (whole 2) (whole 3)) (whole 0) .number ≡ 3
   -- "accelerometer [0,-0,0] gives 1"
   pub no-sample : update-acc binary64 house (vector (whole 0) (neg (whole 0)) (whole 0)) .number ≡ 1
+  -- "accelerometer [0,0,-9.81]: `acc_quat` becomes (0,1,0,0)"; and the sensor points down
+  pub face-down :
+      let told = update-acc binary64 house (vector (whole 0) (whole 0) (neg (decimal binary64 981 100))) in
+      (told .number ≡ 0)
+      × (told .left .inertial .state .inclination .«acc_quat» ≡ quaternion (whole 0) (whole 1) (whole 0) (whole 0))
+      × (rotate binary64 (quat-6d binary64 (told .left)) (vector (whole 0) (whole 0) (whole 1)) ≡ vector (whole 0) (whole 0) (neg (whole 1)))
   -- "`tau_acc` 0.01 at the house interval is taken; 0.009 gives 4"
   pub tau-taken : set-tau-acc binary64 house (decimal binary64 1 100) .number ≡ 0
   pub tau-below : set-tau-acc binary64 house (decimal binary64 9 1000) .number ≡ 4

@@ -97,11 +97,13 @@ fn upright() {
     put_number(b"7 acc_quat[3] ", q.3);
 }
 
-// Accelerometer [0,0,-9.81]: second and fourth parts are 1 divided by the rounded root of 2.
+// Accelerometer [0,0,-9.81]: acc_quat becomes (0,1,0,0).
 fn upside_down() {
     let f = level(b"9 answer ", VQF::fresh(), -9.81);
     let q = f.inertial.state.inclination.acc_quat;
+    put_number(b"10 acc_quat[0] ", q.0);
     put_number(b"10 acc_quat[1] ", q.1);
+    put_number(b"10 acc_quat[2] ", q.2);
     put_number(b"10 acc_quat[3] ", q.3);
 }
 
