@@ -41,7 +41,8 @@ enum sambighjone_answer {
     /* a setting, a flag, the value of a setter or an interval of sambighjone_build is outside its
      * limits */
     SAMBIGHJONE_BAD_SETTING = 4,
-    /* a matrix has no inverse (accelerometer) */
+    /* a matrix has no inverse: its determinant is within 2^-52 of 0, a NaN or infinite
+     * (accelerometer) */
     SAMBIGHJONE_SINGULAR = 5,
     /* a number to be stored would not be finite */
     SAMBIGHJONE_NOT_FINITE = 6,

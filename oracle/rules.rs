@@ -5,7 +5,7 @@ use crate::limits::{self, Intervals, Settings};
 use std::panic::{self, AssertUnwindSafe};
 use vqf::{Params, State, VQF};
 
-#[derive(Clone, Copy, PartialEq)]
+#[derive(Clone, Copy, PartialEq, Eq, PartialOrd, Ord)]
 pub enum Answer {
     Done = 0,
     ZeroSample = 1,

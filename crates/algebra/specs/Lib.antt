@@ -1,4 +1,5 @@
 pub mod Vectors
 pub mod Quaternions
 pub mod Matrices
+pub mod Inverses
 pub mod Values

@@ -5,13 +5,14 @@ use mathlib.Core.List.{List, [], _∷_}
 use Prim.Native.Nat.{ℕ}
 use lib.ListN.{getD}
 use lib.Ieee.{Float, nan, Format, binary64, neg, le}
+use lib.Ieee.Scale as scale
 use Rattle.floats.specs.Notation.{Rounded, rounded, zero, wide, narrow}
 use Rattle.algebra.specs.Vectors.{epsilon, vector}
 use Rattle.algebra.specs.Vectors as vectors
 use Rattle.algebra.specs.declared.vector.Vector.{Vector}
 use Rattle.algebra.specs.declared.matrix.Matrix.{Matrix}
 use Rattle.algebra.specs.declared.matrix.Inverse.{Inverse}
-use Rattle.algebra.specs.declared.matrix.Inverse.the-variants.{Singular, Inverted}
+use Rattle.algebra.specs.declared.matrix.Inverse.the-variants.{TooSmall, NotFinite, Inverted}
 
 abbrev pub row0 : Matrix → Vector
 row0 m = vector (m .m00) (m .m01) (m .m02)
@@ -111,11 +112,12 @@ unfoldable pub divided : Format → Matrix → Float → Matrix
 divided w cofactors det = each (λ x. narrow w (x ⊘ det)) cofactors
 
 -- the source's test `(-EPSILON..=EPSILON).contains(&det)`
-abbrev pub singular : Float → Bool
-singular det = le (neg (epsilon binary64)) det && le det (epsilon binary64)
+abbrev pub too-small : Float → Bool
+too-small det = le (neg (epsilon binary64)) det && le det (epsilon binary64)
 
+-- the source divides by a determinant that is not finite, too
 unfoldable pub invert : Format → Matrix → Inverse
 invert w m =
     let cofactors = adjugate m in
     let det = determinant m cofactors in
-    cond (singular det) Singular (Inverted (divided w cofactors det))
+    cond (too-small det) TooSmall (cond (scale.finite det) (Inverted (divided w cofactors det)) NotFinite)

@@ -19,7 +19,9 @@ pub struct Matrix {
 
 pub enum Inverse {
     // The determinant lies within EPSILON of 0.
-    Singular,
+    TooSmall,
+    // The determinant is a NaN or infinite.
+    NotFinite,
     Inverted(Matrix),
 }
 
@@ -156,10 +158,12 @@ impl Matrix {
         let cofactors = self.adjugate();
         let det = self.determinant(cofactors);
         if (-EPSILON <= det) & (det <= EPSILON) {
-            Inverse::Singular
-        } else {
+            Inverse::TooSmall
+        } else if floats::finite(det) {
             let m = cofactors.divided(det);
             Inverse::Inverted(m)
+        } else {
+            Inverse::NotFinite
         }
     }
 

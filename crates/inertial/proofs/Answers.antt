@@ -4,10 +4,11 @@ use mathlib.Core.Bool.{Bool, true, false, not, cond, _&&_, _||_}
 use native.Mathlib.Omega.{arith}
 use lib.Dec.{T}
 use lib.Ieee.{Float, Format, eq, le}
+use lib.Ieee.Scale as scale
 use Rattle.floats.specs.Notation.{zero}
 use Rattle.floats.specs.Tests.{is-true}
 use Rattle.algebra.specs.Quaternions as quaternions
-use Rattle.algebra.specs.Matrices.{adjugate, determinant, divided, singular, invert}
+use Rattle.algebra.specs.Matrices.{adjugate, determinant, divided, too-small, invert}
 use Rattle.algebra.specs.declared.vector.Vector.{Vector}
 use Rattle.algebra.specs.declared.matrix.Matrix.{Matrix}
 use Rattle.algebra.specs.declared.matrix.Inverse.the-variants as inverse
@@ -17,7 +18,7 @@ use Rattle.limits.specs.Limits.{gyr-taken, acc-taken, interval-taken, zero-samp
 use Rattle.limits.proofs.Table.{exactly}
 use Rattle.inertial.specs.Gyr.{radians, gyr-step, update-gyr-with-ts}
 use Rattle.inertial.specs.Kalman.{updated-bias, rotation, smoothed, widened, innovation, by-inverse, estimated, bias-step}
-use Rattle.inertial.specs.Acc.{acc-settled, acc-step, update-acc}
+use Rattle.inertial.specs.Acc.{singular, acc-settled, acc-step, update-acc}
 use Rattle.inertial.specs.Setters as setters
 use Rattle.inertial.specs.AllFinite.{all-finite}
 use Rattle.inertial.specs.Calls as calls
@@ -71,29 +72,36 @@ module _ (w : Format) where
       go false timely finite e = absurd (omega arith)
 
   -- ---- an accelerometer sample
+  abbrev unfit : Float → Bool
+  unfit det = too-small det || not (scale.finite det)
+
   estimated-singular : (b : Bias) (s : Smooth) (bias : Vector) (p : Matrix) (m : Measurement) (c : Float)
       → let x = innovation w p (m .r) (m .w) in
-      updated-bias b s (estimated w bias p m c) .singular ≡ (le (zero w) (m .w .0) && singular (determinant x (adjugate x)))
+      singular (updated-bias b s (estimated w bias p m c)) ≡ (le (zero w) (m .w .0) && unfit (determinant x (adjugate x)))
   unfolding updated-bias estimated invert
-  estimated-singular b s bias p m c = go (le (zero w) (m .w .0)) (singular (determinant x (adjugate x)))
+  estimated-singular b s bias p m c = go (le (zero w) (m .w .0)) (too-small det) (scale.finite det)
     where
       x : Matrix
       x = innovation w p (m .r) (m .w)
 
-      go : (measured none : Bool)
-          → updated-bias b s
-          (cond measured (by-inverse w bias p m c (cond none inverse.Singular (inverse.Inverted (divided w (adjugate x) (determinant x (adjugate x)))))) (Next (record { bias = bias; «bias_p» = p })))
-          .singular
-          ≡ (measured && none)
-      go true true = refl
-      go true false = refl
-      go false none = refl
+      det : Float
+      det = determinant x (adjugate x)
 
-  only-on : (on measured none : Bool) (t u : TriedBias) → t .singular ≡ (measured && none) → u .singular ≡ false → cond on t u .singular ≡ (on && measured && none)
+      go : (measured small finite : Bool)
+          → singular
+          (updated-bias b s
+          (cond measured (by-inverse w bias p m c (cond small inverse.TooSmall (cond finite (inverse.Inverted (divided w (adjugate x) det)) inverse.NotFinite))) (Next (record { bias = bias; «bias_p» = p }))))
+          ≡ (measured && (small || not finite))
+      go true true finite = refl
+      go true false true = refl
+      go true false false = refl
+      go false small finite = refl
+
+  only-on : (on measured none : Bool) (t u : TriedBias) → singular t ≡ (measured && none) → singular u ≡ false → singular (cond on t u) ≡ (on && measured && none)
   only-on true measured none t u e z = e
   only-on false measured none t u e z = z
 
-  acc-singular : (f : Inertial) (v : Vector) → bias-of w f v .singular ≡ no-inverse w f v
+  acc-singular : (f : Inertial) (v : Vector) → singular (bias-of w f v) ≡ no-inverse w f v
   unfolding bias-step no-inverse
   acc-singular f v =
       let i = inclination-of w f v in
@@ -103,13 +111,13 @@ module _ (w : Format) where
       let c = radians w (f .params .rest .«bias_clip») in
       let m = measurement w f v in
       let x = to-invert w f v in
-      only-on (f .params .bias .«motion_bias_est_enabled» || f .params .rest .«rest_bias_est_enabled») (le (zero w) (m .w .0)) (singular (determinant x (adjugate x)))
-      (updated-bias (f .state .bias) s (estimated w (f .state .bias .bias) p m c)) (record { singular = false; finite = true; bias = f .state .bias })
+      only-on (f .params .bias .«motion_bias_est_enabled» || f .params .rest .«rest_bias_est_enabled») (le (zero w) (m .w .0)) (unfit (determinant x (adjugate x)))
+      (updated-bias (f .state .bias) s (estimated w (f .state .bias .bias) p m c)) (record { «det_too_small» = false; «det_not_finite» = false; finite = true; bias = f .state .bias })
       (estimated-singular (f .state .bias) s (f .state .bias .bias) p m c) refl
 
   acc-asked : (f : Inertial) (v : Vector)
       → update-acc w f v
-      ≡ asked-acc (acc-taken w v) (zero-sample w v) (bias-of w f v .singular) (acc-rest-of w f v .finite && inclination-of w f v .finite && bias-of w f v .finite) (after-acc w f v) f
+      ≡ asked-acc (acc-taken w v) (zero-sample w v) (singular (bias-of w f v)) (acc-rest-of w f v .finite && inclination-of w f v .finite && bias-of w f v .finite) (after-acc w f v) f
   unfolding update-acc acc-step acc-settled
   acc-asked f v = refl
 
@@ -130,7 +138,7 @@ module _ (w : Format) where
   acc-leaves : (f : Inertial) (v : Vector) → update-acc w f v .number ≡ 0 → update-acc w f v .left ≡ after-acc w f v
   unfolding update-acc acc-step acc-settled
   acc-leaves f v =
-      go (acc-taken w v) (zero-sample w v) (bias-of w f v .singular) (acc-rest-of w f v .finite && inclination-of w f v .finite && bias-of w f v .finite)
+      go (acc-taken w v) (zero-sample w v) (singular (bias-of w f v)) (acc-rest-of w f v .finite && inclination-of w f v .finite && bias-of w f v .finite)
     where
       go : (taken nil none finite : Bool)
           → asked-acc taken nil none finite (after-acc w f v) f .number ≡ 0 → asked-acc taken nil none finite (after-acc w f v) f .left ≡ after-acc w f v

@@ -22,7 +22,7 @@ use Rattle.limits.specs.Answers.{Told, told}
 use Rattle.limits.specs.Limits.{all-within, gyr-taken, acc-taken, interval-taken, zero-sample, tau-taken, threshold-taken, sigma-taken, bias-taken, sigma-limit, bias-limit, least-threshold, threshold-limit}
 use Rattle.inertial.specs.Gyr.{finite-gyr-rest, gyr-step, update-gyr-with-ts}
 use Rattle.inertial.specs.Kalman.{finite-bias}
-use Rattle.inertial.specs.Acc.{finite-acc-rest, finite-inclination, acc-settled, acc-step, update-acc}
+use Rattle.inertial.specs.Acc.{finite-acc-rest, finite-inclination, singular, acc-settled, acc-step, update-acc}
 use Rattle.inertial.specs.Setup.{fresh-rest, fresh-state}
 use Rattle.inertial.specs.AllFinite.{finite-rest-params, finite-bias-params, finite-params, finite-bias-coefficients, finite-coefficients, finite-state, all-finite}
 use Rattle.inertial.specs.Setters.{with-params, with-rest-params, with-switches, with-thresholds, with-motion-switch, with-bias, retuned, variance, sigma-or-none-taken, covariance-after, with-estimate, set-tau-acc, set-motion-bias-est-enabled, set-rest-bias-est-enabled, set-mag-dist-rejection-enabled, set-rest-detection-thresholds, set-bias-estimate, reset-state}
@@ -186,7 +186,7 @@ module _ (w : Format) where
       keeps Left (acc-taken w acc) _ (told 2 f)
       (λ _.
       keeps Left (zero-sample w acc) (told 1 f) _ (λ _. h)
-      (keeps Left (bias-of w f acc .singular) (told 5 f) _ (λ _. h)
+      (keeps Left (singular (bias-of w f acc)) (told 5 f) _ (λ _. h)
       (keeps Left (acc-rest-of w f acc .finite && inclination-of w f acc .finite && bias-of w f acc .finite) _ (told 6 f)
       (subst T (acc-tested w f acc h)) h)))
       h

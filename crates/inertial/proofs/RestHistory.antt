@@ -231,7 +231,7 @@ module _ (w : Format) where
       → view f (f .params .rest) (r .rest) ≡ v → Moved f v (acc.acc-settled f r i b)
   unfolding acc.acc-settled
   acc-settled-moves f v r i b h =
-      keeps (Moved f v) (b .singular) (told 5 f) _ (λ _. refl) (keeps (Moved f v) (r .finite && i .finite && b .finite) _ (told 6 f) (λ _. h) refl)
+      keeps (Moved f v) (acc.singular b) (told 5 f) _ (λ _. refl) (keeps (Moved f v) (r .finite && i .finite && b .finite) _ (told 6 f) (λ _. h) refl)
 
   acc-step-moves : (f : Inertial) (x : Vector) → Moved f (acc-seen (view-of f) x) (acc.acc-step w f x)
   unfolding acc.acc-step

@@ -33,7 +33,7 @@ use Rattle.inertial.specs.declared.gyr.TriedRest.{TriedRest}
 use Rattle.inertial.specs.declared.gyr.TriedQuat.{TriedQuat}
 use Rattle.inertial.specs.declared.kalman.Smooth.{Smooth}
 use Rattle.inertial.specs.declared.kalman.KalmanStep.{KalmanStep}
-use Rattle.inertial.specs.declared.kalman.KalmanStep.the-variants.{Singular, Next}
+use Rattle.inertial.specs.declared.kalman.KalmanStep.the-variants.{TooSmall, NotFinite, Next}
 use Rattle.inertial.specs.declared.kalman.TriedBias.{TriedBias}
 
 -- ---- rest
@@ -106,7 +106,8 @@ module _ (w : Format) where
 
   updated-bias-tested : (b : Bias) (s : Smooth) (k : KalmanStep) → T (finite-bias b) → BiasTested (updated-bias b s k)
   unfolding updated-bias
-  updated-bias-tested b s Singular h = (λ _. h, λ _. tt)
+  updated-bias-tested b s TooSmall h = (λ _. h, λ _. tt)
+  updated-bias-tested b s NotFinite h = (λ _. h, λ _. tt)
   updated-bias-tested b s (Next n) h = (λ g. g, λ g. g)
 
   bias-step-tested : (b : Bias) (p : InertialParams) (k : InertialCoefficients) (i : Inclination) (r : Rest) (a : Vector) → T (finite-bias b) → BiasTested (bias-step w b p k i r a)
@@ -116,7 +117,7 @@ module _ (w : Format) where
       let s = smoothed w b m (p .«tau_acc») (k .«acc_ts») (k .«acc_lp») in
       let e = estimated w (b .bias) (widened w (b .«bias_p») (k .bias)) (measured w s p k r a (b .bias)) (radians w (p .rest .«bias_clip»)) in
       keeps BiasTested (p .bias .«motion_bias_est_enabled» || p .rest .«rest_bias_est_enabled»)
-      (updated-bias b s e) (record { singular = false; finite = true; bias = b }) (λ _. updated-bias-tested b s e h) (λ _. h, λ _. tt)
+      (updated-bias b s e) (record { «det_too_small» = false; «det_not_finite» = false; finite = true; bias = b }) (λ _. updated-bias-tested b s e h) (λ _. h, λ _. tt)
 
   -- ---- the steps
   pub gyr-tested : (f : Inertial) (gyr : Vector) (ts : Float) → T (all-finite f)

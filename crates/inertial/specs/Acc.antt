@@ -41,10 +41,14 @@ finite-inclination i =
     && finite-channels 3 (i .«acc_lp_state»)
     && scale.finite (i .«last_acc_corr_angular_rate»)
 
+-- no inverse, for either reason
+abbrev pub singular : TriedBias → Bool
+singular b = b .«det_too_small» || b .«det_not_finite»
+
 -- what the three parts of a step leave: 5 comes before 6
 unfoldable pub acc-settled : Inertial → TriedRest → TriedInclination → TriedBias → Told Inertial
 acc-settled f r i b =
-    cond (b .singular) (told 5 f)
+    cond (singular b) (told 5 f)
     (if-finite (r .finite && i .finite && b .finite) (with-state f (state-of (i .inclination) (b .bias) (r .rest))) f)
 
 module _ (w : Format) where

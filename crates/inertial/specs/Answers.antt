@@ -3,6 +3,7 @@ use mathlib.Core.Path.{_≡_}
 use mathlib.Core.Bool.{Bool, false, not, cond, _&&_, _||_}
 use lib.Dec.{T}
 use lib.Ieee.{Float, Format, binary64, neg, eq, le}
+use lib.Ieee.Scale as scale
 use Rattle.floats.specs.Notation.{zero}
 use Rattle.algebra.specs.Vectors.{epsilon}
 use Rattle.algebra.specs.Quaternions as quaternions
@@ -86,7 +87,8 @@ module _ (w : Format) where
   unfoldable pub no-inverse : Inertial → Vector → Bool
   no-inverse f acc =
       let m = to-invert f acc in
-      inverts f acc && within (neg (epsilon binary64)) (epsilon binary64) (determinant m (adjugate m))
+      let det = determinant m (adjugate m) in
+      inverts f acc && (within (neg (epsilon binary64)) (epsilon binary64) det || not (scale.finite det))
 
   -- ---- The table.
   abbrev pub gyr-faults : Inertial → Vector → Float → Faults

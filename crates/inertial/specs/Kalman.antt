@@ -25,7 +25,7 @@ use Rattle.inertial.specs.declared.types.Rest.{Rest}
 use Rattle.inertial.specs.declared.kalman.Smooth.{Smooth}
 use Rattle.inertial.specs.declared.kalman.Measurement.{Measurement}
 use Rattle.inertial.specs.declared.kalman.KalmanStep.{KalmanStep}
-use Rattle.inertial.specs.declared.kalman.KalmanStep.the-variants.{Singular, Next}
+use Rattle.inertial.specs.declared.kalman.KalmanStep.the-variants.{TooSmall, NotFinite, Next}
 use Rattle.inertial.specs.declared.kalman.TriedBias.{TriedBias}
 
 unfoldable pub finite-bias : Bias → Bool
@@ -51,7 +51,8 @@ with-diagonal m d =
 
 -- the group after the filters and the estimate
 unfoldable pub updated-bias : Bias → Smooth → KalmanStep → TriedBias
-updated-bias b s Singular = record { singular = true; finite = true; bias = b }
+updated-bias b s TooSmall = record { «det_too_small» = true; «det_not_finite» = false; finite = true; bias = b }
+updated-bias b s NotFinite = record { «det_too_small» = false; «det_not_finite» = true; finite = true; bias = b }
 updated-bias b s (Next n) =
     let next : Bias = record {
       bias = n .bias;
@@ -59,7 +60,7 @@ updated-bias b s (Next n) =
       «motion_bias_est_rlp_state» = s .«rlp_state»;
       «motion_bias_est_bias_lp_state» = s .«bias_lp_state»;
     } in
-    record { singular = false; finite = finite-bias next; bias = next }
+    record { «det_too_small» = false; «det_not_finite» = false; finite = finite-bias next; bias = next }
 
 module _ (w : Format) where
   open Rounded (rounded w) using (_⊕_, _⊖_, _⊗_, _⊘_)
@@ -143,7 +144,8 @@ module _ (w : Format) where
   shrunk p k r = minus w p (times w (times w k r) p)
 
   abbrev pub by-inverse : Vector → Matrix → Measurement → Float → Inverse → KalmanStep
-  by-inverse bias p m c inverse.Singular = Singular
+  by-inverse bias p m c inverse.TooSmall = TooSmall
+  by-inverse bias p m c inverse.NotFinite = NotFinite
   by-inverse bias p m c (inverse.Inverted i) =
       let k = gain p (m .r) i in
       Next (record { bias = clip (neg c) c (shifted bias k (clip (neg c) c (m .e))); «bias_p» = shrunk p k (m .r) })
@@ -161,4 +163,4 @@ module _ (w : Format) where
       let m = measured s p k rest acc-earth (b .bias) in
       cond (p .bias .«motion_bias_est_enabled» || p .rest .«rest_bias_est_enabled»)
       (updated-bias b s (estimated (b .bias) (widened (b .«bias_p») (k .bias)) m (radians w (p .rest .«bias_clip»))))
-      (record { singular = false; finite = true; bias = b })
+      (record { «det_too_small» = false; «det_not_finite» = false; finite = true; bias = b })

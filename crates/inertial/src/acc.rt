@@ -152,7 +152,7 @@ impl Inertial {
     fn acc_settled(self, r: TriedRest, i: TriedInclination, b: TriedBias) -> Updated
         ensures { λ u. ⌜ told-of u ≡ acc-settled self r i b ⌝ }
     {
-        if b.singular {
+        if b.det_too_small | b.det_not_finite {
             Updated {
                 answer: Answer::Singular,
                 inertial: self,

@@ -37,13 +37,16 @@ pub struct Estimate {
 }
 
 pub enum KalmanStep {
-    // A matrix has no inverse.
-    Singular,
+    // The matrix to invert has a determinant within EPSILON of 0, or one that is not finite.
+    TooSmall,
+    NotFinite,
     Next(Estimate),
 }
 
+// `bias` is the next group where the determinant is neither; `finite` says whether it is finite.
 pub struct TriedBias {
-    pub singular: bool,
+    pub det_too_small: bool,
+    pub det_not_finite: bool,
     pub finite: bool,
     pub bias: Bias,
 }
@@ -186,7 +189,8 @@ fn estimated(bias: Vector, p: Matrix, m: Measurement, clip: f64) -> KalmanStep
     if w.0 >= 0.0 {
         let inverse = innovation(p, r, w).invert();
         match inverse {
-            Inverse::Singular => KalmanStep::Singular,
+            Inverse::TooSmall => KalmanStep::TooSmall,
+            Inverse::NotFinite => KalmanStep::NotFinite,
             Inverse::Inverted(i) => {
                 let k = gain(p, r, i);
                 let clipped = e.clip(-clip, clip);
@@ -241,8 +245,15 @@ fn updated_bias(b: Bias, s: Smooth, estimated: KalmanStep) -> TriedBias
     ensures { λ r. ⌜ r ≡ updated-bias b s estimated ⌝ }
 {
     match estimated {
-        KalmanStep::Singular => TriedBias {
-            singular: true,
+        KalmanStep::TooSmall => TriedBias {
+            det_too_small: true,
+            det_not_finite: false,
+            finite: true,
+            bias: b,
+        },
+        KalmanStep::NotFinite => TriedBias {
+            det_too_small: false,
+            det_not_finite: true,
             finite: true,
             bias: b,
         },
@@ -259,7 +270,8 @@ fn updated_bias(b: Bias, s: Smooth, estimated: KalmanStep) -> TriedBias
             };
             let finite = finite_bias(next);
             TriedBias {
-                singular: false,
+                det_too_small: false,
+                det_not_finite: false,
                 finite,
                 bias: next,
             }
@@ -294,7 +306,8 @@ pub fn bias_step(
         updated_bias(b, s, next)
     } else {
         TriedBias {
-            singular: false,
+            det_too_small: false,
+            det_not_finite: false,
             finite: true,
             bias: b,
         }

@@ -14,7 +14,7 @@ pub record Faults : Type 0 where
   pub bad-setting : Bool
   -- "accelerometer or magnetometer sample all zero, either sign"
   pub zero-sample : Bool
-  -- "accelerometer step, matrix to invert has determinant in [-2^-52, 2^-52]"
+  -- "accelerometer step, matrix to invert has determinant in [-2^-52, 2^-52]", or one that is a NaN or infinite
   pub singular : Bool
   -- "a number the call would store is NaN or infinite"
   pub not-finite : Bool

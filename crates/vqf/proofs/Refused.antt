@@ -54,7 +54,7 @@ whole-magnetic f t k = record { by = λ h i. record { inertial = f .inertial; ma
 
 acc-settled-kept : (f : Inertial) (r : TriedRest) (i : TriedInclination) (b : TriedBias) → Kept Inertial f (acc.acc-settled f r i b)
 unfolding acc.acc-settled
-acc-settled-kept f r i b = either (b .singular) (same 5 f) (either (r .finite && i .finite && b .finite) (done f _) (same 6 f))
+acc-settled-kept f r i b = either (acc.singular b) (same 5 f) (either (r .finite && i .finite && b .finite) (done f _) (same 6 f))
 
 module _ (w : Format) where
   gyr-step-kept : (f : Inertial) (v : Vector) (ts : Float) → Kept Inertial f (gyr.gyr-step w f v ts)

@@ -17,7 +17,7 @@ use Rattle.limits.specs.Answers.{Told}
 use Rattle.limits.specs.Limits.{gyr-taken, acc-taken, interval-taken, zero-sample, tau-taken, threshold-taken, bias-taken, least-threshold, threshold-limit}
 use Rattle.inertial.specs.Setup.{taken, rest-params-taken, bias-coefficients, setup, fresh-rest, fresh-state, new}
 use Rattle.inertial.specs.Gyr.{squared-deviation, gyr-stirred, gyr-filtered, broken, gyr-rest, turned, predicted, gyr-step, update-gyr-with-ts}
-use Rattle.inertial.specs.Acc.{finite-inclination, acc-filtered, counted, acc-stirred, acc-rest, acc-lowpassed, inclined, acc-settled, acc-step, update-acc}
+use Rattle.inertial.specs.Acc.{finite-inclination, acc-filtered, counted, acc-stirred, acc-rest, acc-lowpassed, inclined, singular, acc-settled, acc-step, update-acc}
 use Rattle.inertial.specs.Setters.{adapted-inclination, sigma-or-none-taken, retuned, set-tau-acc, set-motion-bias-est-enabled, set-rest-bias-est-enabled, set-mag-dist-rejection-enabled, set-rest-detection-thresholds, set-bias-estimate, reset-state}
 use Rattle.inertial.specs.Calls as calls
 use Rattle.inertial.specs.declared.types.Deviations.{Deviations}
@@ -129,7 +129,7 @@ acc-settled-sound : (f : Inertial) (r : TriedRest) (i : TriedInclination) (b : T
     → Left (acc-settled f r i b)
 unfolding acc-settled
 acc-settled-sound f r i b h d q of-i =
-    keeps Left (b .singular) _ _ (λ _. h)
+    keeps Left (singular b) _ _ (λ _. h)
     (keeps Left (r .finite && i .finite && b .finite) _ _
     (λ t. record { tilt = (q, of-i ((simp both at t) .0 .1)); squares = d; thresholds = h .thresholds; variance = h .variance })
     h)

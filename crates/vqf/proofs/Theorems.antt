@@ -1,6 +1,7 @@
 -- Each theorem by its own proof.
 use Rattle.numbers.proofs.RootLaws.{root-meets, root-only}
 use Rattle.numbers.proofs.Ranges.{ranges}
+use Rattle.algebra.proofs.Inverses.{inverses}
 use Rattle.filters.proofs.Bounds.{bounds}
 use Rattle.filters.proofs.InStep.{stay-in-step}
 use Rattle.inertial.proofs.HalfTurn.{half-turn}
@@ -27,6 +28,7 @@ theorems = record {
   root-meets = root-meets;
   root-only = root-only;
   ranges = ranges;
+  inverses = inverses;
   bounds = bounds;
   stay-in-step = stay-in-step;
   worked = worked;

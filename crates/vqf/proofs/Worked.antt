@@ -1,5 +1,6 @@
 -- The worked values, computed from the definitions.
 use mathlib.Core.Path.{_≡_, refl}
+use Prim.Native.Nat.{_^_}
 use lib.Ieee.{binary64, add, sub, mul, div, neg, lt, eq, le, ofInt, round, ofBits, toBits}
 use Rattle.floats.specs.Decimals.{decimal}
 use Rattle.floats.specs.Definitions.{magnitude, clamp, larger}
@@ -14,6 +15,7 @@ use Rattle.filters.specs.Values as filters
 use Rattle.filters.specs.Coefficients.{angle, coeffs, filter-coeffs}
 use Rattle.filters.specs.Channels.{average, filter-channel, filter-adapt-state-for-coeff-change, finite-channel}
 use Rattle.filters.specs.Banks.{outputs, channels, filter-vec2, filter-vec3, filter-vec9, adapted, adapt2, adapt3, adapt9, first-numbers, finite-channels}
+use Rattle.limits.specs.Answers.{told}
 use Rattle.limits.specs.Limits.{all-within, zero-sample}
 use Rattle.inertial.specs.Gyr as gyr
 use Rattle.inertial.specs.Acc as acc
@@ -24,7 +26,7 @@ use Rattle.vqf.specs.Build.{house, built, fresh}
 use Rattle.vqf.specs.Update.{update-gyr, update-gyr-with-ts, update-acc}
 use Rattle.vqf.specs.Setters.{set-tau-acc}
 use Rattle.vqf.specs.Asked.{quat-6d}
-use Rattle.vqf.specs.Worked.{Worked}
+use Rattle.vqf.specs.Worked.{scaled, filled, house-at, level, Worked}
 
 tau-below : set-tau-acc binary64 (fresh binary64) (decimal binary64 9 1000) .number ≡ 4
 unfolding set-tau-acc setters.set-tau-acc fresh built house inertial.new inertial.setup inertial.house le round ofBits
@@ -38,13 +40,17 @@ gyr-taken : update-gyr binary64 (fresh binary64) (vectors.vector (algebra.whole 
 unfolding update-gyr gyr.update-gyr-with-ts gyr.gyr-step gyr.gyr-rest gyr.gyr-filtered gyr.gyr-stirred gyr.squared-deviation gyr.broken gyr.finite-gyr-rest gyr.predicted gyr.turned vectors.norm vectors.finite quaternions.times quaternions.normalize quaternions.norm quaternions.finite filter-vec3 outputs channels filter-channel average finite-channels finite-channel fresh built house inertial.new inertial.setup inertial.house inertial.fresh-state inertial.fresh-rest all-within magnitude root sine cosine sine-of cosine-of reduce ksin kcos clamp add sub mul div neg lt eq le ofInt round ofBits
 gyr-taken = refl
 
-face-down :
-    let told = update-acc binary64 (fresh binary64) (vectors.vector (algebra.whole 0) (algebra.whole 0) (neg (decimal binary64 981 100))) in
+-- accelerometer calls, the whole step
+acc-calls :
+    (let told = update-acc binary64 (fresh binary64) (vectors.vector (algebra.whole 0) (algebra.whole 0) (neg (decimal binary64 981 100))) in
     (told .number ≡ 0)
     × (told .left .inertial .state .inclination .«acc_quat» ≡ quaternions.quaternion (algebra.whole 0) (algebra.whole 1) (algebra.whole 0) (algebra.whole 0))
-    × (quaternions.rotate binary64 (quat-6d binary64 (told .left)) (vectors.vector (algebra.whole 0) (algebra.whole 0) (algebra.whole 1)) ≡ vectors.vector (algebra.whole 0) (algebra.whole 0) (neg (algebra.whole 1)))
+    × (quaternions.rotate binary64 (quat-6d binary64 (told .left)) (vectors.vector (algebra.whole 0) (algebra.whole 0) (algebra.whole 1)) ≡ vectors.vector (algebra.whole 0) (algebra.whole 0) (neg (algebra.whole 1))))
+    × (update-acc binary64 (house-at (scaled (2 ^ 334))) level .number ≡ 0)
+    × (update-acc binary64 (house-at (scaled (2 ^ 400))) level ≡ told 5 (house-at (scaled (2 ^ 400))))
+    × (update-acc binary64 (house-at (filled (2 ^ 600))) level ≡ told 5 (house-at (filled (2 ^ 600))))
 unfolding update-acc setters.quat-6d acc.update-acc acc.acc-step acc.acc-settled acc.acc-rest acc.acc-filtered acc.counted acc.finite-acc-rest acc.inclined acc.acc-lowpassed acc.acc-correction acc.finite-inclination kalman.bias-step kalman.rotation kalman.smoothed kalman.measured kalman.in-motion kalman.raised kalman.widened kalman.innovation kalman.gain kalman.shifted kalman.shrunk kalman.estimated kalman.updated-bias kalman.finite-bias gyr.squared-deviation vectors.norm vectors.normalize vectors.finite vectors.clip vectors.clipped quaternions.times quaternions.normalize quaternions.norm quaternions.rotate quaternions.finite matrices.minus matrices.dot matrices.times matrices.diagonal matrices.transpose matrices.flatten matrices.unflatten matrices.finite matrices.adjugate matrices.determinant matrices.divided matrices.invert filter-vec2 filter-vec3 filter-vec9 outputs channels filter-channel average finite-channels finite-channel fresh built house inertial.new inertial.setup inertial.house inertial.fresh-state inertial.fresh-rest inertial.bias-coefficients all-within zero-sample magnitude root arccosine near-one kasin clamp larger add sub mul div neg lt eq le ofInt round ofBits
-face-down = (refl, refl, refl)
+acc-calls = ((refl, refl, refl), refl, refl, refl)
 
 pub worked : Worked
 unfolding update-gyr update-gyr-with-ts update-acc set-tau-acc gyr.update-gyr-with-ts acc.update-acc setters.set-tau-acc all-within zero-sample neg eq le ofInt round ofBits toBits root
@@ -54,13 +60,20 @@ worked = record {
   inverse = algebra.values .2;
   no-inverse = algebra.values .3;
   an-inverse = algebra.values .4;
+  large-inverse = algebra.values .5;
+  overflow = algebra.values .6;
+  overflow-below = algebra.values .7;
+  no-number = algebra.values .8;
   averaged = filters.values;
   gyr-taken = gyr-taken;
   gyr-above = refl;
   gyr-nan = refl;
   no-interval = refl;
   no-sample = refl;
-  face-down = face-down;
+  face-down = acc-calls .0;
+  acc-large = acc-calls .1;
+  acc-overflow = acc-calls .2;
+  acc-no-number = acc-calls .3;
   tau-taken = tau-taken;
   tau-below = tau-below;
   root-taken = refl;

@@ -2,6 +2,7 @@
 use lib.Ieee.{Format}
 use Rattle.numbers.specs.Root.{Meets, Only}
 use Rattle.numbers.specs.Ranges.{Ranges}
+use Rattle.algebra.specs.Inverses.{Inverses}
 use Rattle.filters.specs.Bounds.{Bounds}
 use Rattle.filters.specs.InStep.{StayInStep}
 use Rattle.inertial.specs.HalfTurn.{HalfTurn}
@@ -40,6 +41,8 @@ pub record Theorems : Type 0 where
   pub root-only : (w : Format) → Only w
   -- domains and ranges of sine, cosine, tangent, exponential and arc functions
   pub ranges : Ranges
+  -- the inverse answers "too small" and "not finite" exactly by its determinant, and divides by any other
+  pub inverses : (w : Format) → Inverses w
   -- coefficients of every accepted filter are finite, gains lie within 0 and 1
   pub bounds : Bounds
   -- the channels of a bank average together and end together

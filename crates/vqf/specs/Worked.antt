@@ -1,7 +1,7 @@
--- The worked values of document 01 that are marked P, and the one that document 02 changed, each below its line. Numbers are binary64; the calls are made on the fresh house filter.
+-- The worked values of document 01 that are marked P, and what document 02 changed or added, each below its line. Numbers are binary64; the calls are made on the fresh house filter.
 use mathlib.Core.Path.{_≡_}
 use mathlib.Core.List.{[], _∷_}
-use Prim.Native.Nat.{_+_, _^_}
+use Prim.Native.Nat.{ℕ, _+_, _^_}
 use lib.Ieee.{Float, nan, binary64, neg, ofBits, toBits}
 use Rattle.floats.specs.Decimals.{decimal}
 use Rattle.numbers.specs.Root.{root}
@@ -9,11 +9,15 @@ use Rattle.algebra.specs.Values.{whole, part}
 use Rattle.algebra.specs.Vectors.{vector}
 use Rattle.algebra.specs.Quaternions.{quaternion, rotate, times}
 use Rattle.algebra.specs.Matrices.{rows, invert}
+use Rattle.algebra.specs.declared.vector.Vector.{Vector}
 use Rattle.algebra.specs.declared.matrix.Matrix.{Matrix}
-use Rattle.algebra.specs.declared.matrix.Inverse.the-variants.{Singular, Inverted}
+use Rattle.algebra.specs.declared.matrix.Inverse.the-variants.{TooSmall, NotFinite, Inverted}
 use Rattle.filters.specs.Channels.{averaging, fresh, filter-initial-state}
 use Rattle.filters.specs.Banks.{filter-vec3}
 use Rattle.filters.specs.declared.coeffs.Coeffs.{Coeffs}
+use Rattle.limits.specs.Answers.{told}
+use Rattle.inertial.specs.Told.{state-of, with-state}
+use Rattle.inertial.specs.declared.types.Bias.{Bias}
 use Rattle.vqf.specs.Build as build
 use Rattle.vqf.specs.Update.{update-gyr, update-gyr-with-ts, update-acc}
 use Rattle.vqf.specs.Setters.{set-tau-acc}
@@ -26,6 +30,29 @@ house = build.fresh binary64
 abbrev diagonal : Float → Float → Float → Matrix
 diagonal a b c = rows (vector a (whole 0) (whole 0)) (vector (whole 0) b (whole 0)) (vector (whole 0) (whole 0) c)
 
+-- n on the diagonal, and everywhere
+abbrev pub scaled : ℕ → Matrix
+scaled n = diagonal (whole n) (whole n) (whole n)
+
+abbrev pub filled : ℕ → Matrix
+filled n = let row = vector (whole n) (whole n) (whole n) in rows row row row
+
+-- the house filter with the covariance p
+abbrev pub house-at : Matrix → VQF
+house-at p =
+    let i = house .inertial in
+    let b = i .state .bias in
+    let bias : Bias = record {
+      bias = b .bias;
+      «bias_p» = p;
+      «motion_bias_est_rlp_state» = b .«motion_bias_est_rlp_state»;
+      «motion_bias_est_bias_lp_state» = b .«motion_bias_est_bias_lp_state»;
+    } in
+    record { inertial = with-state i (state-of (i .state .inclination) bias (i .state .rest)); magnetic = house .magnetic }
+
+abbrev pub level : Vector
+level = vector (whole 0) (whole 0) (decimal binary64 981 100)
+
 abbrev next-above : Float → Float
 next-above x = ofBits binary64 (toBits binary64 x + 1)
 
@@ -37,8 +64,13 @@ pub record Worked : Type 0 where
   -- "inverse of diagonal 2, 4, 8 is diagonal 0.5, 0.25, 0.125"
   pub inverse : invert binary64 (diagonal (whole 2) (whole 4) (whole 8)) ≡ Inverted (diagonal (part 2) (part 4) (part 8))
   -- "diagonal 1, 1, 2^-52 has no inverse; with 2^-51 it has one"
-  pub no-inverse : invert binary64 (diagonal (whole 1) (whole 1) (part (2 ^ 52))) ≡ Singular
+  pub no-inverse : invert binary64 (diagonal (whole 1) (whole 1) (part (2 ^ 52))) ≡ TooSmall
   pub an-inverse : invert binary64 (diagonal (whole 1) (whole 1) (part (2 ^ 51))) ≡ Inverted (diagonal (whole 1) (whole 1) (whole (2 ^ 51)))
+  -- a determinant of 2^1023 is divided by; one that overflows, to either side, and one that is a NaN are "not finite"
+  pub large-inverse : invert binary64 (diagonal (whole 1) (whole 1) (whole (2 ^ 1023))) ≡ Inverted (diagonal (whole 1) (whole 1) (part (2 ^ 1023)))
+  pub overflow : invert binary64 (diagonal (whole 2) (whole 1) (whole (2 ^ 1023))) ≡ NotFinite
+  pub overflow-below : invert binary64 (diagonal (neg (whole 2)) (whole 1) (whole (2 ^ 1023))) ≡ NotFinite
+  pub no-number : invert binary64 (diagonal (whole 1) (whole 1) nan) ≡ NotFinite
   -- "averaging, interval 0.5, tau 1: [1,2,4] answers itself, then [3,4,8] answers [2,3,6] and averaging ends"
   pub averaged :
       (k : Coeffs)
@@ -62,6 +94,10 @@ pub record Worked : Type 0 where
       (told .number ≡ 0)
       × (told .left .inertial .state .inclination .«acc_quat» ≡ quaternion (whole 0) (whole 1) (whole 0) (whole 0))
       × (rotate binary64 (quat-6d binary64 (told .left)) (vector (whole 0) (whole 0) (whole 1)) ≡ vector (whole 0) (whole 0) (neg (whole 1)))
+  -- "the accelerometer step gives 5 for either": taken at a determinant of 2^1002; at 2^1200, which is infinite, and at a NaN 5 and the filter as it was
+  pub acc-large : update-acc binary64 (house-at (scaled (2 ^ 334))) level .number ≡ 0
+  pub acc-overflow : update-acc binary64 (house-at (scaled (2 ^ 400))) level ≡ told 5 (house-at (scaled (2 ^ 400)))
+  pub acc-no-number : update-acc binary64 (house-at (filled (2 ^ 600))) level ≡ told 5 (house-at (filled (2 ^ 600)))
   -- "`tau_acc` 0.01 at the house interval is taken; 0.009 gives 4"
   pub tau-taken : set-tau-acc binary64 house (decimal binary64 1 100) .number ≡ 0
   pub tau-below : set-tau-acc binary64 house (decimal binary64 9 1000) .number ≡ 4

@@ -13,6 +13,9 @@ invert-requires c κs = search needs
 enum-told : tie.Need-enum-told
 enum-told c = search needs
 
+enum-told-2 : tie.Need-enum-told-2
+enum-told-2 c = search needs
+
 enum-known-inverse : tie.Need-enum-known-inverse
 enum-known-inverse c = search needs
 
@@ -37,11 +40,15 @@ returns c = simp (simp (c .before .before .invert .ensures, c .before .before .b
 
 returns-2 : tie.Need-returns-2
 unfolding estimated
-returns-2 c = simp (c .shrunk .ensures, c .before .clip2 .ensures, c .before .before .shifted .ensures, c .before .before .before .clip .ensures, c .before .before .before .before .gain .ensures, simp (c .before .before .before .before .before .before .before .before .invert .ensures, c .before .before .before .before .before .before .before .before .before .innovation .ensures) at (c .before .before .before .before .before .before .inverse .given .1), c .before .before .before .before .before .before .before .before .before .before .if1 .taken)
+returns-2 c = simp (simp (c .before .before .invert .ensures, c .before .before .before .innovation .ensures) at (c .enum-told2 .given .1), c .before .before .before .before .if1 .taken)
 
 returns-3 : tie.Need-returns-3
 unfolding estimated
-returns-3 c = simp (c .if1 .left)
+returns-3 c = simp (c .shrunk .ensures, c .before .clip2 .ensures, c .before .before .shifted .ensures, c .before .before .before .clip .ensures, c .before .before .before .before .gain .ensures, simp (c .before .before .before .before .before .before .before .before .invert .ensures, c .before .before .before .before .before .before .before .before .before .innovation .ensures) at (c .before .before .before .before .before .before .inverse .given .1), c .before .before .before .before .before .before .before .before .before .before .if1 .taken)
+
+returns-4 : tie.Need-returns-4
+unfolding estimated
+returns-4 c = simp (c .if1 .left)
 
 pub estimated-spec : {M : Type 1} → statement M
 estimated-spec =
@@ -50,6 +57,7 @@ estimated-spec =
     innovation-requires
     invert-requires
     enum-told
+    enum-told-2
     enum-known-inverse
     gain-requires
     clip-requires
@@ -58,4 +66,5 @@ estimated-spec =
     shrunk-requires
     returns
     returns-2
-    returns-3)
+    returns-3
+    returns-4)

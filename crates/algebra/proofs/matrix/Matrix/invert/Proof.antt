@@ -10,6 +10,9 @@ adjugate-requires c κs = search needs
 determinant-requires : tie.Need-determinant-requires
 determinant-requires c κs = search needs
 
+finite-requires : tie.Need-finite-requires
+finite-requires c κs = search needs
+
 divided-requires : tie.Need-divided-requires
 divided-requires c κs = search needs
 
@@ -19,8 +22,20 @@ returns c = simp (simp (c .before .determinant .ensures, c .before .before .adju
 
 returns-2 : tie.Need-returns-2
 unfolding invert
-returns-2 c = simp (c .divided .ensures, simp (c .before .before .determinant .ensures, c .before .before .before .adjugate .ensures) at (c .before .if1 .left), c .before .before .determinant .ensures, c .before .before .before .adjugate .ensures)
+returns-2 c = simp (c .divided .ensures, simp (c .before .before .finite .ensures, c .before .before .before .before .determinant .ensures, c .before .before .before .before .before .adjugate .ensures) at (c .before .if2 .taken), simp (c .before .before .before .before .determinant .ensures, c .before .before .before .before .before .adjugate .ensures) at (c .before .before .before .if1 .left), c .before .before .before .before .determinant .ensures, c .before .before .before .before .before .adjugate .ensures)
+
+returns-3 : tie.Need-returns-3
+unfolding invert
+returns-3 c = simp (simp (c .before .finite .ensures, c .before .before .before .determinant .ensures, c .before .before .before .before .adjugate .ensures) at (c .if2 .left), simp (c .before .before .before .determinant .ensures, c .before .before .before .before .adjugate .ensures) at (c .before .before .if1 .left))
 
 pub invert-spec : {M : Type 1} → statement M
 invert-spec =
-    tie.close (tie.spec adjugate-requires determinant-requires divided-requires returns returns-2)
+    tie.close
+    (tie.spec
+    adjugate-requires
+    determinant-requires
+    finite-requires
+    divided-requires
+    returns
+    returns-2
+    returns-3)
