@@ -128,10 +128,11 @@ uint32_t sambighjone_set_mag_dist_rejection_enabled(double *image, size_t size, 
 uint32_t sambighjone_set_rest_detection_thresholds(double *image, size_t size, double th_gyr,
                                                    double th_acc);
 
-/* The gyroscope's bias in rad/s; how sure it is stays. */
+/* The gyroscope's bias in rad/s, each component within the filter's own clip: the setting at
+ * SAMBIGHJONE_BIAS_CLIP, which is in degrees per second. How sure it is stays. */
 uint32_t sambighjone_set_bias_estimate(double *image, size_t size, double x, double y, double z);
 
-/* With its standard deviation in rad/s. */
+/* With its standard deviation in rad/s, 0 to 100. */
 uint32_t sambighjone_set_bias_estimate_with_sigma(double *image, size_t size, double x, double y,
                                                   double z, double sigma);
 

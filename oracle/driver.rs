@@ -1,6 +1,7 @@
 //! Plays a call script from the standard input through the source and prints its answers, or with
 //! the argument `show` the table that the program of that name prints.
 
+#[allow(dead_code)]
 mod limits;
 mod lines;
 mod rules;

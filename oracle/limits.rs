@@ -1,6 +1,8 @@
 //! The settings by name, the house values, and what a call will take (document 01).
 //! Ends are included, NaN is outside, and -0 counts as 0.
 
+use std::f64::consts::PI;
+
 #[derive(Clone, Copy)]
 pub struct Range {
     pub low: f64,
@@ -25,7 +27,6 @@ pub const GYR: Range = within(100.0);
 pub const ACC: Range = within(1000.0);
 pub const MAG: Range = within(1_000_000.0);
 pub const INTERVAL: Range = range(0.0001, 1.0);
-pub const BIAS: Range = within(2.0);
 pub const BIAS_SIGMA: Range = range(0.0, 100.0);
 pub const MAG_REF_NORM: Range = range(0.0, 2_000_000.0);
 pub const MAG_REF_DIP: Range = within(1.6);
@@ -126,6 +127,11 @@ pub fn ranges(name: &str, ts: Intervals) -> Vec<Range> {
         | "mag_max_rejection_time" => vec![DURATION],
         _ => panic!("no setting is called {name}"),
     }
+}
+
+/// What `set_bias_estimate` takes for a component, at that `bias_clip`.
+pub fn bias(clip: f64) -> Range {
+    within(clip * (PI / 180.0))
 }
 
 pub fn setting_taken(name: &str, value: f64, ts: Intervals) -> bool {

@@ -41,6 +41,9 @@ pub enum Call {
 /// What `unwrap` says where the source finds no inverse.
 const NO_INVERSE: &str = "called `Option::unwrap()` on a `None` value";
 
+/// An accelerometer sample that adds to the rest time.
+const QUIET: [f64; 3] = [0.0, 0.0, 9.81];
+
 pub fn fresh_house_filter() -> VQF {
     VQF::new(
         limits::HOUSE_INTERVAL,
@@ -133,7 +136,8 @@ fn settings_taken(filter: &VQF, call: &Call) -> bool {
             taken("rest_th_gyr", th_gyr) && taken("rest_th_acc", th_acc)
         }
         Call::Bias(bias, sigma) => {
-            bias.iter().all(|component| limits::BIAS.takes(*component))
+            !bias.iter().any(|component| component.is_nan())
+                && !is_beyond_clip(bias, filter.params().bias_clip)
                 && sigma.is_none_or(|sigma| limits::BIAS_SIGMA.takes(sigma))
         }
         Call::MagRef(norm, dip) => {
@@ -141,6 +145,17 @@ fn settings_taken(filter: &VQF, call: &Call) -> bool {
         }
         _ => true,
     }
+}
+
+/// Whether the source's gyro step finds a rate beyond the clip. The first sample of a filter is its
+/// own average, so its deviation is 0, and the clip alone decides whether it breaks rest.
+fn is_beyond_clip(rate: [f64; 3], clip: f64) -> bool {
+    let mut settings = limits::house();
+    settings[limits::place("bias_clip")] = clip;
+    let mut asked = VQF::new(limits::HOUSE_INTERVAL, None, None, Some(params(&settings)));
+    asked.update_acc(QUIET);
+    asked.update_gyr(rate);
+    asked.state().rest_t == 0.0
 }
 
 fn zero_sample(call: &Call) -> bool {

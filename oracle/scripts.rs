@@ -15,11 +15,12 @@ use limits::{Intervals, Range, Settings};
 use motion::{scaled, Motion, World, MOTIONS};
 use random::Random;
 use std::env;
+use std::f64::consts::PI;
 use std::io::{self, BufWriter, StdoutLock, Write};
 use std::process::exit;
 use values::Draw;
 
-const KINDS: [(&str, fn(&mut Script)); 19] = [
+const KINDS: [(&str, fn(&mut Script)); 20] = [
     ("still", |script| script.realistic(Motion::Still)),
     ("walking", |script| script.realistic(Motion::Walking)),
     ("trolley", |script| script.realistic(Motion::Trolley)),
@@ -28,6 +29,7 @@ const KINDS: [(&str, fn(&mut Script)); 19] = [
     ("steel", Script::steel),
     ("facedown", Script::face_down),
     ("setters", Script::setters),
+    ("clip", Script::clip),
     ("limits", Script::limits),
     ("edges", Script::edges),
     ("uniform", |script| script.drawn(Draw::Uniform)),
@@ -75,6 +77,8 @@ struct Script {
     state_in: u64,
     /// Whether calls are written as a person writes them.
     by_hand: bool,
+    /// The `bias_clip` of the filter that the calls so far have built.
+    clip: f64,
 }
 
 /// How the samples of a run are drawn.
@@ -100,6 +104,7 @@ impl Script {
             calls_left: count,
             state_in: CALLS_BETWEEN_STATES,
             by_hand: false,
+            clip: clip_of(&limits::house()),
         }
     }
 
@@ -154,6 +159,7 @@ impl Script {
     }
 
     fn construct(&mut self, ts: Intervals, absent: [bool; 2], settings: Option<&Settings>) {
+        self.clip = clip_in_force(ts, absent, settings);
         let optional = |value: f64, absent: bool| match absent {
             true => " -".to_string(),
             false => values::words(&[value]),
@@ -333,14 +339,45 @@ impl Script {
     }
 
     fn bias(&mut self, draw: Draw) {
+        let limit = limits::bias(self.clip);
         let random = &mut self.random;
-        let mut component = || values::within(limits::BIAS, draw, random);
-        let bias = [component(), component(), component()];
+        let mut component = || values::within(limit, draw, random);
+        let mut bias = [component(), component(), component()];
         let sigma = values::within(limits::BIAS_SIGMA, draw, random);
+        if random.one_in(8) {
+            // A technician types degrees.
+            bias = scaled(bias, 180.0 / PI);
+        }
         if self.random.one_in(2) {
             self.call_text(&format!("bias{} -", values::words(&bias)));
         } else {
             self.call("bias", &[bias[0], bias[1], bias[2], sigma]);
+        }
+    }
+
+    /// Any clip, and biases at it, next to it and beyond it; some constructions are refused, and the
+    /// house's clip is in force then.
+    fn clip(&mut self) {
+        while self.wanted() {
+            let ts = self.realistic_intervals();
+            let mut settings = values::near_house(ts, &mut self.random);
+            let draw = self.random.pick(&[Draw::Uniform, Draw::Log, Draw::Edges]);
+            settings[limits::place("bias_clip")] = match self.random.one_in(4) {
+                true => 0.1 * (1 + self.random.below(900)) as f64,
+                false => values::setting("bias_clip", ts, draw, &mut self.random),
+            };
+            self.construct(ts, [false; 2], Some(&settings));
+            for _ in 0..10 + self.random.below(20) {
+                let draw = self
+                    .random
+                    .pick(&[Draw::Edges, Draw::Edges, Draw::Ends, Draw::Log]);
+                self.bias(draw);
+                match self.random.below(16) {
+                    0 => self.setter(ts, Draw::Log),
+                    1 => self.upright_samples(3),
+                    _ => (),
+                }
+            }
         }
     }
 
@@ -723,6 +760,26 @@ impl Script {
             self.line(&text);
             self.calls_left -= 1;
         }
+    }
+}
+
+fn clip_of(settings: &Settings) -> f64 {
+    settings[limits::place("bias_clip")]
+}
+
+/// The clip after a construction, which is the house's where it is refused.
+fn clip_in_force(ts: Intervals, absent: [bool; 2], settings: Option<&Settings>) -> f64 {
+    let house = limits::house();
+    let settings = settings.unwrap_or(&house);
+    let or_gyr = |interval: f64, absent: bool| if absent { ts.gyr } else { interval };
+    let ts = Intervals {
+        gyr: ts.gyr,
+        acc: or_gyr(ts.acc, absent[0]),
+        mag: or_gyr(ts.mag, absent[1]),
+    };
+    match limits::construction_taken(settings, ts) {
+        true => clip_of(settings),
+        false => clip_of(&house),
     }
 }
 

@@ -1,9 +1,10 @@
 //! ways ANSWERS: plays a call script from the standard input through the source and counts why
-//! accelerometer steps are answered as they are. ANSWERS is what the oracle prints for that script;
-//! it must have the same answers.
+//! accelerometer steps, and biases that are set, are answered as they are. ANSWERS is what the oracle
+//! prints for that script; it must have the same answers.
 //!
 //! The determinants are the source's own, and so is its test of them. That 5 is the answer where
-//! one is not finite is told here, apart from the line that is amended in the oracle.
+//! one is not finite is told here, apart from the line that is amended in the oracle. So is that 4 is
+//! the answer where a bias is beyond the clip: here by the number, in the oracle by the source's gyro step.
 
 #[allow(dead_code)]
 mod fields;
@@ -23,8 +24,8 @@ use std::io::{self, BufRead, BufReader, Read};
 use std::process::exit;
 use vqf::{DETERMINANT, VQF};
 
-/// The answer of a step, and why.
-type Step = (Answer, String);
+/// What is counted: a call, its answer, and why.
+type Step = (&'static str, Answer, String);
 
 fn main() {
     rules::hush_missing_inverse();
@@ -36,7 +37,7 @@ fn main() {
         .unwrap_or_else(|error| stop(&format!("cannot read {answers}: {error}")));
     let counts = count(lines_of(answers));
     if counts.is_empty() {
-        stop("no accelerometer step was played");
+        stop("no accelerometer step was played, and no bias was set");
     }
     print(&counts);
 }
@@ -53,9 +54,9 @@ fn count(mut answers: impl Iterator<Item = String>) -> BTreeMap<Step, u64> {
             stop(&format!("line {number} of the scripts is no call"));
         }
         if let Some(step) = play_line(&mut filter, &line) {
-            let due = step.0 as u8;
+            let due = step.1 as u8;
             if told(&answer) != Some(&due.to_string()) {
-                let why = &step.1;
+                let why = &step.2;
                 stop(&format!(
                     "line {number}: {due}, {why}. The oracle has: {answer}"
                 ));
@@ -66,16 +67,16 @@ fn count(mut answers: impl Iterator<Item = String>) -> BTreeMap<Step, u64> {
     counts
 }
 
-/// The word of an output line that answers an accelerometer step.
+/// The word of an output line that answers an accelerometer step or a bias.
 fn told(answer: &str) -> Option<&str> {
     let words: Vec<&str> = answer.split(' ').collect();
     match words.as_slice() {
-        ["acc", answer] | ["upd", _, answer, _] => Some(answer),
+        ["acc" | "bias", answer] | ["upd", _, answer, _] => Some(answer),
         _ => None,
     }
 }
 
-/// Plays a line; its accelerometer step, if it has one.
+/// Plays a line; its accelerometer step or its bias, if it has one.
 fn play_line(filter: &mut VQF, line: &str) -> Option<Step> {
     let words = words::words(line.as_bytes())?;
     let (word, arguments) = words.split_first()?;
@@ -88,10 +89,13 @@ fn play_line(filter: &mut VQF, line: &str) -> Option<Step> {
             mag.map(|mag| rules::play(filter, &Call::Mag(mag)));
             Some(step)
         }
-        _ => {
-            script::call(word, arguments).map(|call| rules::play(filter, &call));
-            None
-        }
+        _ => match script::call(word, arguments)? {
+            Call::Bias(bias, sigma) => Some(play_bias(filter, bias, sigma)),
+            call => {
+                rules::play(filter, &call);
+                None
+            }
+        },
     }
 }
 
@@ -105,14 +109,45 @@ fn play_acc(filter: &mut VQF, acc: [f64; 3]) -> Step {
             let det = if det.is_nan() { "a NaN" } else { "infinite" };
             let goes_on = answer as u8;
             let why = format!("the determinant is {det}; the source goes on to {goes_on}");
-            (Answer::Singular, why)
+            ("acc", Answer::Singular, why)
         }
-        (Answer::Singular, _) => (answer, "the determinant is too small".to_string()),
-        (Answer::NotFinite, _) => (answer, not_finite(before, acc)),
-        (Answer::ZeroSample, _) => (answer, "the sample is all zero".to_string()),
-        (Answer::SampleOutside, _) => (answer, "the sample is outside its limits".to_string()),
-        _ => (answer, "taken".to_string()),
+        _ => ("acc", answer, acc_reason(answer, before, acc)),
     }
+}
+
+fn acc_reason(answer: Answer, before: VQF, acc: [f64; 3]) -> String {
+    match answer {
+        Answer::Singular => "the determinant is too small".to_string(),
+        Answer::NotFinite => not_finite(before, acc),
+        Answer::ZeroSample => "the sample is all zero".to_string(),
+        Answer::SampleOutside => "the sample is outside its limits".to_string(),
+        _ => "taken".to_string(),
+    }
+}
+
+/// A bias, by where its component that is furthest out lies to the clip of the settings in force.
+fn play_bias(filter: &mut VQF, bias: [f64; 3], sigma: Option<f64>) -> Step {
+    let clip = limits::bias(filter.params().bias_clip).high;
+    rules::play(filter, &Call::Bias(bias, sigma));
+    if sigma.is_some_and(|sigma| !limits::BIAS_SIGMA.takes(sigma)) {
+        let why = "the standard deviation is outside its limits".to_string();
+        return ("bias", Answer::SettingOutside, why);
+    }
+    let furthest = bias.map(f64::abs).into_iter().fold(0.0, f64::max);
+    let (answer, why) = if bias.iter().any(|component| component.is_nan()) {
+        (Answer::SettingOutside, "a component is a NaN")
+    } else if furthest > clip.next_up() {
+        (Answer::SettingOutside, "beyond the clip")
+    } else if furthest > clip {
+        (Answer::SettingOutside, "the first value beyond the clip")
+    } else if furthest == clip {
+        (Answer::Done, "the clip itself")
+    } else if furthest == clip.next_down() {
+        (Answer::Done, "the last value before the clip")
+    } else {
+        (Answer::Done, "within the clip")
+    };
+    ("bias", answer, why.to_string())
 }
 
 /// The stored quantities of which the source's call leaves a number that is not finite.
@@ -135,10 +170,10 @@ fn not_finite(before: VQF, acc: [f64; 3]) -> String {
 }
 
 fn print(counts: &BTreeMap<Step, u64>) {
-    println!("| answer | why | accelerometer steps |");
-    println!("|---|---|---|");
-    for ((answer, why), count) in counts {
-        println!("| {} | {why} | {count} |", *answer as u8);
+    println!("| call | answer | why | how often |");
+    println!("|---|---|---|---|");
+    for ((call, answer, why), count) in counts {
+        println!("| {call} | {} | {why} | {count} |", *answer as u8);
     }
 }
 

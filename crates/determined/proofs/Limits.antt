@@ -11,7 +11,6 @@ limits = record {
   mag-taken = λ κs a z z′ e e′. equal;
   within = λ κs a z z′ e e′. equal;
   zero-sample = λ κs a z z′ e e′. equal;
-  bias-taken = λ κs a z z′ e e′. equal;
   dip-threshold-taken = λ κs a z z′ e e′. equal;
   duration-taken = λ κs a z z′ e e′. equal;
   forgetting-time-taken = λ κs a z z′ e e′. equal;

@@ -7,7 +7,6 @@ use Rattle.limits.proofs.sample.interval_taken.Reads as interval-taken
 use Rattle.limits.proofs.sample.mag_taken.Reads as mag-taken
 use Rattle.limits.proofs.sample.within.Reads as within
 use Rattle.limits.proofs.sample.zero_sample.Reads as zero-sample
-use Rattle.limits.proofs.setting.bias_taken.Reads as bias-taken
 use Rattle.limits.proofs.setting.dip_threshold_taken.Reads as dip-threshold-taken
 use Rattle.limits.proofs.setting.duration_taken.Reads as duration-taken
 use Rattle.limits.proofs.setting.forgetting_time_taken.Reads as forgetting-time-taken
@@ -31,7 +30,6 @@ pub record Limits : Type 0 where
   pub mag-taken : OneResult mag-taken.Learnt
   pub within : OneResult within.Learnt
   pub zero-sample : OneResult zero-sample.Learnt
-  pub bias-taken : OneResult bias-taken.Learnt
   pub dip-threshold-taken : OneResult dip-threshold-taken.Learnt
   pub duration-taken : OneResult duration-taken.Learnt
   pub forgetting-time-taken : OneResult forgetting-time-taken.Learnt

@@ -14,7 +14,7 @@ use Rattle.algebra.specs.declared.matrix.Matrix.{Matrix}
 use Rattle.algebra.specs.declared.matrix.Inverse.the-variants as inverse
 use Rattle.limits.specs.Answers.{Told, told}
 use Rattle.limits.specs.Table.{first}
-use Rattle.limits.specs.Limits.{gyr-taken, acc-taken, interval-taken, zero-sample, tau-taken, threshold-taken, bias-taken}
+use Rattle.limits.specs.Limits.{gyr-taken, acc-taken, interval-taken, zero-sample, tau-taken, threshold-taken}
 use Rattle.limits.proofs.Table.{exactly}
 use Rattle.inertial.specs.Gyr.{radians, gyr-step, update-gyr-with-ts}
 use Rattle.inertial.specs.Kalman.{updated-bias, rotation, smoothed, widened, innovation, by-inverse, estimated, bias-step}
@@ -184,7 +184,7 @@ module _ (w : Format) where
 
   bias-answered : (f : Inertial) (b : Vector) (s : Sigma) → setters.set-bias-estimate w f b s .number ≡ first (faults w f (calls.set-bias-estimate b s))
   unfolding setters.set-bias-estimate
-  bias-answered f b s = asked-setting (bias-taken w b && setters.sigma-or-none-taken w s) _ f
+  bias-answered f b s = asked-setting (setters.bias-taken w (f .params .rest .«bias_clip») b && setters.sigma-or-none-taken w s) _ f
 
   answered : (f : Inertial) (c : calls.Call) → T (all-finite f) → calls.reply w f c .number ≡ first (faults w f c)
   answered f (calls.update-gyr v) h = gyr-answered f v (f .coeffs .«gyr_ts») h

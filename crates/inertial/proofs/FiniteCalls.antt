@@ -8,7 +8,7 @@ use lib.Ieee.Scale.{finite}
 use Rattle.floats.specs.Notation.{pi}
 use Rattle.floats.specs.Decimals.{hundred, half-turn}
 use Rattle.floats.specs.Tests.{both, keeps}
-use Rattle.floats.specs.Order.{Within, within-finite}
+use Rattle.floats.specs.Order.{Within, within-finite, neg-finite}
 use Rattle.floats.specs.Intervals.{none, known, Expr, var, lit, mul·, div·, bound, is-finite}
 use Rattle.numbers.specs.Constants.{𝟎}
 use Rattle.algebra.specs.Vectors as vectors
@@ -19,17 +19,18 @@ use Rattle.algebra.specs.declared.matrix.Matrix.{Matrix}
 use Rattle.filters.specs.Channels.{fresh, finite-channel}
 use Rattle.filters.specs.Banks.{finite-channels}
 use Rattle.limits.specs.Answers.{Told, told}
-use Rattle.limits.specs.Limits.{all-within, gyr-taken, acc-taken, interval-taken, zero-sample, tau-taken, threshold-taken, sigma-taken, bias-taken, sigma-limit, bias-limit, least-threshold, threshold-limit}
-use Rattle.inertial.specs.Gyr.{finite-gyr-rest, gyr-step, update-gyr-with-ts}
+use Rattle.limits.specs.Limits.{all-within, gyr-taken, acc-taken, interval-taken, zero-sample, tau-taken, threshold-taken, sigma-taken, sigma-limit, least-threshold, threshold-limit}
+use Rattle.inertial.specs.Gyr.{radians, finite-gyr-rest, gyr-step, update-gyr-with-ts}
 use Rattle.inertial.specs.Kalman.{finite-bias}
 use Rattle.inertial.specs.Acc.{finite-acc-rest, finite-inclination, singular, acc-settled, acc-step, update-acc}
 use Rattle.inertial.specs.Setup.{fresh-rest, fresh-state}
 use Rattle.inertial.specs.AllFinite.{finite-rest-params, finite-bias-params, finite-params, finite-bias-coefficients, finite-coefficients, finite-state, all-finite}
-use Rattle.inertial.specs.Setters.{with-params, with-rest-params, with-switches, with-thresholds, with-motion-switch, with-bias, retuned, variance, sigma-or-none-taken, covariance-after, with-estimate, set-tau-acc, set-motion-bias-est-enabled, set-rest-bias-est-enabled, set-mag-dist-rejection-enabled, set-rest-detection-thresholds, set-bias-estimate, reset-state}
+use Rattle.inertial.specs.Setters.{with-params, with-rest-params, with-switches, with-thresholds, with-motion-switch, with-bias, retuned, variance, bias-taken, sigma-or-none-taken, covariance-after, with-estimate, set-tau-acc, set-motion-bias-est-enabled, set-rest-bias-est-enabled, set-mag-dist-rejection-enabled, set-rest-detection-thresholds, set-bias-estimate, reset-state}
 use Rattle.inertial.specs.Answers.{gyr-rest-of, quat-of, acc-rest-of, inclination-of, bias-of}
 use Rattle.inertial.specs.declared.types.Inertial.{Inertial}
 use Rattle.inertial.specs.declared.setters.Sigma.{Sigma}
 use Rattle.inertial.specs.declared.setters.Sigma.the-variants.{Absent, Given}
+use Rattle.inertial.proofs.BiasLimit.{limit-finite, ClipTaken}
 use Rattle.inertial.proofs.Tested.{gyr-tested, acc-tested, fits, tau-acc-tested}
 
 abbrev Fine : Inertial → Type 0
@@ -64,11 +65,13 @@ threshold-finite : (x : Float) → T (threshold-taken binary64 x) → T (finite 
 unfolding ofBits
 threshold-finite x t = let h = simp both at t in within-finite x (least-threshold binary64) (threshold-limit binary64) tt tt h
 
-bias-finite : (v : Vector) → T (bias-taken binary64 v) → T (vectors.finite v)
-unfolding all-within vectors.finite neg ofBits
-bias-finite v t =
+bias-finite : (clip : Float) (v : Vector) → T (threshold-taken binary64 clip) → T (bias-taken binary64 clip v) → T (vectors.finite v)
+unfolding all-within vectors.finite
+bias-finite clip v k t =
     let h = simp both at t in
-    let one : (x : Float) → Within x (neg (bias-limit binary64)) (bias-limit binary64) → T (finite x) = λ x. within-finite x _ _ tt tt in
+    let limit = radians binary64 clip in
+    let l = limit-finite binary64 clip k in
+    let one : (x : Float) → Within x (neg limit) limit → T (finite x) = λ x. within-finite x _ _ (neg-finite limit l) l in
     simp both ((one _ (h .0 .0), one _ (h .0 .1)), one _ (h .1))
 
 abbrev scaled· : Expr
@@ -111,14 +114,15 @@ module _ (f : Inertial) (h : Fine f) where
       let u = both (threshold-taken binary64 g) (threshold-taken binary64 a) .0 t in
       simp both ((thresholds g a (threshold-finite g (u .0)) (threshold-finite a (u .1)), parts .0 .1), parts .1)
 
-  estimate-stored : (v : Vector) (sigma : Sigma) → T (bias-taken binary64 v && sigma-or-none-taken binary64 sigma) → Fine (with-bias f (with-estimate binary64 (f .state .bias) v sigma))
+  estimate-stored : (v : Vector) (sigma : Sigma) → ClipTaken f → T (bias-taken binary64 (f .params .rest .«bias_clip») v && sigma-or-none-taken binary64 sigma) → Fine (with-bias f (with-estimate binary64 (f .state .bias) v sigma))
   unfolding all-finite finite-state finite-bias with-estimate
-  estimate-stored v sigma t =
+  estimate-stored v sigma k t =
       let s = parts .1 in
       let q = simp both at s in
       let b = q .0 .0 .1 in
-      let u = both (bias-taken binary64 v) (sigma-or-none-taken binary64 sigma) .0 t in
-      simp both (parts .0, (((q .0 .0 .0, (((bias-finite v (u .0), covariance-finite _ sigma (b .0 .0 .1) (u .1)), b .0 .1), b .1)), q .0 .1), q .1))
+      let clip = f .params .rest .«bias_clip» in
+      let u = both (bias-taken binary64 clip v) (sigma-or-none-taken binary64 sigma) .0 t in
+      simp both (parts .0, (((q .0 .0 .0, (((bias-finite clip v k (u .0), covariance-finite _ sigma (b .0 .0 .1) (u .1)), b .0 .1), b .1)), q .0 .1), q .1))
 
 -- ---- the setters
 pub set-motion-finite : (f : Inertial) (on : Bool) → T (all-finite f) → T (all-finite (set-motion-bias-est-enabled f on))
@@ -149,9 +153,9 @@ pub set-thresholds-finite : (f : Inertial) (g a : Float) → T (all-finite f) �
 unfolding set-rest-detection-thresholds
 set-thresholds-finite f g a h = keeps Left (threshold-taken binary64 g && threshold-taken binary64 a) _ _ (thresholds-stored f h g a) h
 
-pub set-bias-finite : (f : Inertial) (v : Vector) (sigma : Sigma) → T (all-finite f) → T (all-finite (set-bias-estimate binary64 f v sigma .left))
+pub set-bias-finite : (f : Inertial) (v : Vector) (sigma : Sigma) → ClipTaken f → T (all-finite f) → T (all-finite (set-bias-estimate binary64 f v sigma .left))
 unfolding set-bias-estimate
-set-bias-finite f v sigma h = keeps Left (bias-taken binary64 v && sigma-or-none-taken binary64 sigma) _ _ (estimate-stored f h v sigma) h
+set-bias-finite f v sigma k h = keeps Left (bias-taken binary64 (f .params .rest .«bias_clip») v && sigma-or-none-taken binary64 sigma) _ _ (estimate-stored f h v sigma k) h
 
 pub set-tau-acc-finite : (f : Inertial) (tau : Float) → T (all-finite f) → T (all-finite (set-tau-acc binary64 f tau .left))
 unfolding set-tau-acc retuned

@@ -16,7 +16,7 @@ use Rattle.filters.specs.Coefficients.{filter-coeffs}
 use Rattle.filters.specs.declared.channel.Channel.{Channel}
 use Rattle.filters.specs.declared.coeffs.Coeffs.{Coeffs}
 use Rattle.limits.specs.Answers.{Told, told}
-use Rattle.limits.specs.Limits.{gyr-taken, acc-taken, zero-sample, interval-taken, tau-taken, threshold-taken, bias-taken}
+use Rattle.limits.specs.Limits.{gyr-taken, acc-taken, zero-sample, interval-taken, tau-taken, threshold-taken}
 use Rattle.inertial.specs.Told.{state-of, with-state}
 use Rattle.inertial.specs.Gyr as gyr
 use Rattle.inertial.specs.Acc as acc
@@ -285,7 +285,7 @@ module _ (w : Format) where
 
   estimate-keeps : (f : Inertial) (b : Vector) (sigma : Sigma) → Moved f (view-of f) (setters.set-bias-estimate w f b sigma)
   unfolding setters.set-bias-estimate
-  estimate-keeps f b sigma = keeps (Moved f (view-of f)) (bias-taken w b && setters.sigma-or-none-taken w sigma) _ (told 4 f) (λ _. refl) refl
+  estimate-keeps f b sigma = keeps (Moved f (view-of f)) (setters.bias-taken w (f .params .rest .«bias_clip») b && setters.sigma-or-none-taken w sigma) _ (told 4 f) (λ _. refl) refl
 
   moved : (f : Inertial) (c : Call) → Moved f (stepped (view-of f) c) (reply w f c)
   unfolding setters.set-mag-dist-rejection-enabled setters.reset-state setup.fresh-state setup.fresh-rest

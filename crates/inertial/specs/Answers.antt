@@ -13,12 +13,12 @@ use Rattle.algebra.specs.declared.matrix.Matrix.{Matrix}
 use Rattle.filters.specs.Coefficients.{filter-coeffs}
 use Rattle.filters.specs.declared.coeffs.Coeffs.{Coeffs}
 use Rattle.limits.specs.Table.{Faults, faultless, setting-fault, Exactly}
-use Rattle.limits.specs.Limits.{within, gyr-taken, acc-taken, interval-taken, zero-sample, tau-taken, threshold-taken, bias-taken}
+use Rattle.limits.specs.Limits.{within, gyr-taken, acc-taken, interval-taken, zero-sample, tau-taken, threshold-taken}
 use Rattle.inertial.specs.Told.{state-of, with-state}
 use Rattle.inertial.specs.Gyr.{with-gyr-quat, gyr-rest, predicted}
 use Rattle.inertial.specs.Kalman.{rotation, smoothed, measured, widened, innovation, bias-step}
 use Rattle.inertial.specs.Acc.{acc-rest, inclined}
-use Rattle.inertial.specs.Setters.{with-tau-acc, with-acc-lp, adapted-inclination, adapted-bias, sigma-or-none-taken}
+use Rattle.inertial.specs.Setters.{with-tau-acc, with-acc-lp, adapted-inclination, adapted-bias, bias-taken, sigma-or-none-taken}
 use Rattle.inertial.specs.AllFinite.{all-finite}
 use Rattle.inertial.specs.Calls.{Call, update-gyr, update-acc, update-gyr-with-ts, set-tau-acc, set-motion-bias-est-enabled, set-rest-bias-est-enabled, set-mag-dist-rejection-enabled, set-rest-detection-thresholds, set-bias-estimate, reset-state, reply}
 use Rattle.inertial.specs.declared.types.Inertial.{Inertial}
@@ -127,7 +127,7 @@ module _ (w : Format) where
   faults f (update-acc acc) = acc-faults f acc
   faults f (set-tau-acc tau) = tau-acc-faults f tau
   faults f (set-rest-detection-thresholds gyr acc) = setting-fault (not (threshold-taken w gyr && threshold-taken w acc))
-  faults f (set-bias-estimate bias sigma) = setting-fault (not (bias-taken w bias && sigma-or-none-taken w sigma))
+  faults f (set-bias-estimate bias sigma) = setting-fault (not (bias-taken w (f .params .rest .«bias_clip») bias && sigma-or-none-taken w sigma))
   faults f (set-motion-bias-est-enabled on) = faultless
   faults f (set-rest-bias-est-enabled on) = faultless
   faults f (set-mag-dist-rejection-enabled on) = faultless

@@ -11,3 +11,4 @@ pub mod Construction
 pub mod Calls
 pub mod RestHistory
 pub mod Answers
+pub mod BiasLimit

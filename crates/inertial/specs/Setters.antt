@@ -17,7 +17,7 @@ use Rattle.filters.specs.Coefficients.{filter-coeffs}
 unfoldable pub use Rattle.filters.specs.Coefficients.{finite-coeffs}
 use Rattle.filters.specs.declared.coeffs.Coeffs.{Coeffs}
 use Rattle.limits.specs.Answers.{Told, told}
-use Rattle.limits.specs.Limits.{tau-taken, threshold-taken, sigma-taken, bias-taken}
+use Rattle.limits.specs.Limits.{all-within, tau-taken, threshold-taken, sigma-taken}
 use Rattle.inertial.specs.Told.{state-of, with-state, if-finite}
 use Rattle.inertial.specs.Gyr.{square, radians}
 use Rattle.inertial.specs.Setup.{fresh-rest, fresh-state}
@@ -175,6 +175,10 @@ module _ (w : Format) where
   unfoldable pub variance : Float → Float
   variance sigma = square w (sigma ⊗ (half-turn w ⊗ hundred w ⊘ pi w))
 
+  -- each component within the filter's own clip, worked out as the gyro step works it out
+  abbrev pub bias-taken : Float → Vector → Bool
+  bias-taken clip = all-within (radians w clip)
+
   unfoldable pub sigma-or-none-taken : Sigma → Bool
   sigma-or-none-taken Absent = true
   sigma-or-none-taken (Given s) = sigma-taken w s
@@ -194,7 +198,9 @@ module _ (w : Format) where
 
   unfoldable pub set-bias-estimate : Inertial → Vector → Sigma → Told Inertial
   set-bias-estimate f v sigma =
-      cond (bias-taken w v && sigma-or-none-taken sigma) (told 0 (with-bias f (with-estimate (f .state .bias) v sigma))) (told 4 f)
+      cond (bias-taken (f .params .rest .«bias_clip») v && sigma-or-none-taken sigma)
+      (told 0 (with-bias f (with-estimate (f .state .bias) v sigma)))
+      (told 4 f)
 
   unfoldable pub reset-state : Inertial → Inertial
   reset-state f = with-state f (fresh-state w (f .coeffs .bias .«bias_p0»))

@@ -2,7 +2,7 @@
 ghost use mathlib.Core.Path.{_≡_};
 ghost use lib.Ieee.{binary64};
 ghost use Rattle.inertial.specs.Told.{told-of};
-ghost use Rattle.inertial.specs.Setters.{finite-coeffs, adapted-inclination, adapted-bias, retuned, set-tau-acc, set-motion-bias-est-enabled, set-rest-bias-est-enabled, set-mag-dist-rejection-enabled, set-rest-detection-thresholds, variance, sigma-or-none-taken, with-estimate, set-bias-estimate, reset-state, quat-3d, quat-6d, row-sum, bias-estimate, relative-rest-deviations};
+ghost use Rattle.inertial.specs.Setters.{finite-coeffs, adapted-inclination, adapted-bias, retuned, set-tau-acc, set-motion-bias-est-enabled, set-rest-bias-est-enabled, set-mag-dist-rejection-enabled, set-rest-detection-thresholds, variance, bias-taken, sigma-or-none-taken, with-estimate, set-bias-estimate, reset-state, quat-3d, quat-6d, row-sum, bias-estimate, relative-rest-deviations};
 use crate::gyr::radians;
 use crate::types::Bias;
 use crate::types::Deviations;
@@ -17,6 +17,7 @@ use algebra::Vector;
 use filters::Channel;
 use filters::Coeffs;
 use limits::Answer;
+use limits::sample;
 use limits::setting;
 
 const PI: f64 = 3.141592653589793;
@@ -72,6 +73,14 @@ fn variance(sigma: f64) -> f64
 {
     let s = sigma * (180.0 * 100.0 / PI);
     s * s
+}
+
+// Each component within the filter's own clip, worked out as the gyro step works it out.
+fn bias_taken(bias: Vector, clip: f64) -> bool
+    ensures { λ r. ⌜ r ≡ bias-taken binary64 clip bias ⌝ }
+{
+    let limit = radians(clip);
+    sample::all_within(bias, limit)
 }
 
 fn sigma_or_none_taken(sigma: Sigma) -> bool
@@ -251,7 +260,7 @@ impl Inertial {
     pub fn set_bias_estimate(self, bias: Vector, sigma: Sigma) -> Updated
         ensures { λ r. ⌜ told-of r ≡ set-bias-estimate binary64 self bias sigma ⌝ }
     {
-        if setting::bias_taken(bias) & sigma_or_none_taken(sigma) {
+        if bias_taken(bias, self.params.rest.bias_clip) & sigma_or_none_taken(sigma) {
             let b = self.state.bias;
             let next_bias = with_estimate(b, bias, sigma);
             let mut state = self.state;

@@ -1,2 +1,3 @@
 pub mod Answers
 pub mod Table
+pub mod BySize

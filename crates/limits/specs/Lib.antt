@@ -1,3 +1,4 @@
 pub mod Answers
 pub mod Table
 pub mod Limits
+pub mod BySize

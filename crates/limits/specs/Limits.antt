@@ -4,7 +4,7 @@ use mathlib.Core.Bool.{Bool, _&&_, _||_}
 use mathlib.Core.List.{List, [], _∷_, map}
 use Prim.Native.Nat.{ℕ}
 use lib.Ieee.{Float, Format, binary32, binary64, neg, le, eq, round, ofBits}
-use Rattle.floats.specs.Notation.{zero, one, two}
+use Rattle.floats.specs.Notation.{zero, one}
 use Rattle.floats.specs.Decimals.{decimal, ten, ninety, hundred, half-turn, thousand, ten-thousand, million, two-million, one-point-six, tenth, ten-thousandth}
 use Rattle.algebra.specs.declared.vector.Vector.{Vector}
 
@@ -53,9 +53,6 @@ min-gyr-limit = thousand
 
 abbrev pub rejection-factor-limit : Format → Float
 rejection-factor-limit = thousand
-
-abbrev pub bias-limit : Format → Float
-bias-limit = two
 
 abbrev pub ref-norm-limit : Format → Float
 ref-norm-limit = two-million
@@ -126,10 +123,7 @@ module _ (w : Format) where
   abbrev pub rejection-factor-taken : Float → Bool
   rejection-factor-taken = within (one w) (rejection-factor-limit w)
 
-  -- what the setters of the bias and of the magnetic reference take
-  abbrev pub bias-taken : Vector → Bool
-  bias-taken = all-within (bias-limit w)
-
+  -- what the setter of the magnetic reference takes
   abbrev pub ref-norm-taken : Float → Bool
   ref-norm-taken = within (zero w) (ref-norm-limit w)
 
@@ -154,7 +148,6 @@ limits =
     ∷ dip-threshold-limit
     ∷ min-gyr-limit
     ∷ rejection-factor-limit
-    ∷ bias-limit
     ∷ ref-norm-limit
     ∷ ref-dip-limit
     ∷ []
@@ -176,7 +169,6 @@ decimals =
     ∷ (180, 1)
     ∷ (1000, 1)
     ∷ (1000, 1)
-    ∷ (2, 1)
     ∷ (2000000, 1)
     ∷ (16, 10)
     ∷ []

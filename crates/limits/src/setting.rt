@@ -1,10 +1,8 @@
 // Which settings and setter values are taken. Ends are included, a NaN is outside, and -0 counts as 0.
 ghost use mathlib.Core.Path.{_≡_};
 ghost use lib.Ieee.{binary64};
-ghost use Rattle.limits.specs.Limits.{tau-taken, tau-or-off-taken, gain-tau-taken, sigma-taken, vertical-factor-taken, forgetting-time-taken, threshold-taken, duration-taken, norm-threshold-taken, dip-threshold-taken, min-gyr-taken, rejection-factor-taken, bias-taken, ref-norm-taken, ref-dip-taken};
-use crate::sample::all_within;
+ghost use Rattle.limits.specs.Limits.{tau-taken, tau-or-off-taken, gain-tau-taken, sigma-taken, vertical-factor-taken, forgetting-time-taken, threshold-taken, duration-taken, norm-threshold-taken, dip-threshold-taken, min-gyr-taken, rejection-factor-taken, ref-norm-taken, ref-dip-taken};
 use crate::sample::within;
-use algebra::Vector;
 
 const LONGEST: f64 = 10000.0;
 
@@ -25,8 +23,6 @@ const DIP_THRESHOLD_LIMIT: f64 = 180.0;
 const MIN_GYR_LIMIT: f64 = 1000.0;
 
 const REJECTION_FACTOR_LIMIT: f64 = 1000.0;
-
-const BIAS_LIMIT: f64 = 2.0;
 
 const REF_NORM_LIMIT: f64 = 2000000.0;
 
@@ -105,13 +101,6 @@ pub fn rejection_factor_taken(factor: f64) -> bool
     ensures { λ r. ⌜ r ≡ rejection-factor-taken binary64 factor ⌝ }
 {
     within(factor, 1.0, REJECTION_FACTOR_LIMIT)
-}
-
-// What `set_bias_estimate` takes for a bias.
-pub fn bias_taken(bias: Vector) -> bool
-    ensures { λ r. ⌜ r ≡ bias-taken binary64 bias ⌝ }
-{
-    all_within(bias, BIAS_LIMIT)
 }
 
 pub fn ref_norm_taken(norm: f64) -> bool

@@ -10,7 +10,7 @@ use Rattle.algebra.specs.declared.vector.Vector.{Vector}
 use Rattle.filters.specs.Banks.{finite-channels}
 use Rattle.filters.specs.Coefficients.{filter-coeffs, gain-from-tau}
 use Rattle.limits.specs.Answers.{Told, told}
-use Rattle.limits.specs.Limits.{gyr-taken, acc-taken, mag-taken, interval-taken, zero-sample, tau-taken, gain-tau-taken, threshold-taken, bias-taken, ref-norm-taken, ref-dip-taken}
+use Rattle.limits.specs.Limits.{gyr-taken, acc-taken, mag-taken, interval-taken, zero-sample, tau-taken, gain-tau-taken, threshold-taken, ref-norm-taken, ref-dip-taken}
 use Rattle.inertial.specs.Gyr as gyr
 use Rattle.inertial.specs.Acc as acc
 use Rattle.inertial.specs.Setters as inertial
@@ -115,7 +115,7 @@ module _ (w : Format) where
 
   bias-kept : (f : Inertial) (v : Vector) (s : Sigma) → Kept Inertial f (inertial.set-bias-estimate w f v s)
   unfolding inertial.set-bias-estimate
-  bias-kept f v s = either (bias-taken w v && inertial.sigma-or-none-taken w s) (done f _) (same 4 f)
+  bias-kept f v s = either (inertial.bias-taken w (f .params .rest .«bias_clip») v && inertial.sigma-or-none-taken w s) (done f _) (same 4 f)
 
   mag-ref-kept : (f : Magnetic) (norm dip : Float) → Kept Magnetic f (magnetic.set-mag-ref w f norm dip)
   unfolding magnetic.set-mag-ref

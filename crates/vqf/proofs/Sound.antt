@@ -14,11 +14,11 @@ use Rattle.algebra.specs.declared.quaternion.Quaternion.{Quaternion}
 use Rattle.algebra.proofs.Normalized.{AllSmall, identity-small, normalized-small}
 use Rattle.filters.specs.declared.coeffs.Coeffs.{Coeffs}
 use Rattle.limits.specs.Answers.{Told}
-use Rattle.limits.specs.Limits.{gyr-taken, acc-taken, interval-taken, zero-sample, tau-taken, threshold-taken, bias-taken, least-threshold, threshold-limit}
+use Rattle.limits.specs.Limits.{gyr-taken, acc-taken, interval-taken, zero-sample, tau-taken, threshold-taken, least-threshold, threshold-limit}
 use Rattle.inertial.specs.Setup.{taken, rest-params-taken, bias-coefficients, setup, fresh-rest, fresh-state, new}
 use Rattle.inertial.specs.Gyr.{squared-deviation, gyr-stirred, gyr-filtered, broken, gyr-rest, turned, predicted, gyr-step, update-gyr-with-ts}
 use Rattle.inertial.specs.Acc.{finite-inclination, acc-filtered, counted, acc-stirred, acc-rest, acc-lowpassed, inclined, singular, acc-settled, acc-step, update-acc}
-use Rattle.inertial.specs.Setters.{adapted-inclination, sigma-or-none-taken, retuned, set-tau-acc, set-motion-bias-est-enabled, set-rest-bias-est-enabled, set-mag-dist-rejection-enabled, set-rest-detection-thresholds, set-bias-estimate, reset-state}
+use Rattle.inertial.specs.Setters.{adapted-inclination, bias-taken, sigma-or-none-taken, retuned, set-tau-acc, set-motion-bias-est-enabled, set-rest-bias-est-enabled, set-mag-dist-rejection-enabled, set-rest-detection-thresholds, set-bias-estimate, reset-state}
 use Rattle.inertial.specs.Calls as calls
 use Rattle.inertial.specs.declared.types.Deviations.{Deviations}
 use Rattle.inertial.specs.declared.types.Inertial.{Inertial}
@@ -180,7 +180,7 @@ set-thresholds-sound f g a h =
 
 set-bias-sound : (f : Inertial) (v : Vector) (sigma : Sigma) → Sound f → Left (set-bias-estimate binary64 f v sigma)
 unfolding set-bias-estimate
-set-bias-sound f v sigma h = keeps Left (bias-taken binary64 v && sigma-or-none-taken binary64 sigma) _ _ (λ _. h) h
+set-bias-sound f v sigma h = keeps Left (bias-taken binary64 (f .params .rest .«bias_clip») v && sigma-or-none-taken binary64 sigma) _ _ (λ _. h) h
 
 reset-sound : (f : Inertial) → Sound f → Sound (reset-state binary64 f)
 unfolding reset-state fresh-state fresh-rest

@@ -1,4 +1,6 @@
 -- A filter that was built holds finite numbers, and each call keeps them so: the half that it is made on by the lemmas of that half, the other half as it was.
+-- A bias is held to the clip, which is finite in radians because a construction took it and no call changes it.
+use mathlib.Core.Path.{sym, subst, ap, _∙_}
 use mathlib.Core.Bool.{Bool, Bool·beq}
 use mathlib.Core.List.{List, [], _∷_}
 use lib.Dec.{T}
@@ -7,7 +9,10 @@ use lib.Ieee.Fits.{and-i}
 use Rattle.floats.specs.Tests.{both, keeps}
 use Rattle.algebra.specs.declared.vector.Vector.{Vector}
 use Rattle.limits.specs.Answers.{Told, told}
+use Rattle.limits.specs.Limits.{threshold-taken}
 use Rattle.inertial.specs.AllFinite as inertial
+use Rattle.inertial.specs.Setup as setup
+use Rattle.inertial.proofs.BiasLimit.{ClipTaken, bias-limit}
 use Rattle.inertial.proofs.FiniteCalls as of-inertial
 use Rattle.magnetic.specs.AllFinite as magnetic
 use Rattle.magnetic.specs.Fields.{finite-field}
@@ -15,19 +20,46 @@ use Rattle.inertial.specs.declared.types.Inertial.{Inertial}
 use Rattle.magnetic.proofs.FiniteCalls as of-magnetic
 use Rattle.magnetic.specs.declared.types.Magnetic.{Magnetic}
 use Rattle.vqf.specs.AllFinite.{all-finite}
+use Rattle.vqf.specs.Build.{house, interval-or, settings-or-house, taken, built, fresh, new}
+use Rattle.vqf.specs.Construction.{all-taken}
 use Rattle.vqf.specs.Whole.{halves, inertially, magnetically}
 use Rattle.vqf.specs.Update as updates
 use Rattle.vqf.specs.Setters as setters
-use Rattle.vqf.specs.Calls.{Call, update-gyr, update-acc, update-mag, update-gyr-with-ts, update, set-tau-acc, set-tau-mag, set-motion-bias-est-enabled, set-rest-bias-est-enabled, set-mag-dist-rejection-enabled, set-rest-detection-thresholds, set-mag-ref, set-bias-estimate, reset-state, reply, run}
+use Rattle.vqf.specs.Calls.{Call, update-gyr, update-acc, update-mag, update-gyr-with-ts, update, set-tau-acc, set-tau-mag, set-motion-bias-est-enabled, set-rest-bias-est-enabled, set-mag-dist-rejection-enabled, set-rest-detection-thresholds, set-mag-ref, set-bias-estimate, reset-state, inertial-calls, reply, run}
 use Rattle.vqf.specs.StaysFinite.{StaysFinite}
 use Rattle.vqf.specs.declared.types.VQF.{VQF}
+use Rattle.vqf.specs.declared.types.Params.{Params}
+use Rattle.vqf.specs.declared.types.Interval.{Interval}
+use Rattle.vqf.specs.declared.types.Settings.{Settings}
 use Rattle.vqf.specs.declared.types.Sample.{Sample}
 use Rattle.vqf.specs.declared.types.Sample.the-variants.{Absent, Given}
-use Rattle.vqf.proofs.Construction.{construction}
+use Rattle.vqf.proofs.Construction.{house-within, construction}
+use Rattle.vqf.proofs.InertialRun.{inertial-run}
 
 abbrev Finite : VQF → Type 0
 Finite f = T (all-finite f)
 
+-- ---- the clip, after any calls
+abbrev Clipped : VQF → Type 0
+Clipped f = (calls : List Call) → ClipTaken (run binary64 f calls .inertial)
+
+built-clipped : (p : Params) (gyr-ts acc-ts mag-ts : Float) → T (taken binary64 p gyr-ts acc-ts mag-ts) → Clipped (built binary64 p gyr-ts acc-ts mag-ts)
+unfolding taken setup.taken setup.rest-params-taken built
+built-clipped p gyr-ts acc-ts mag-ts t calls =
+    let f = built binary64 p gyr-ts acc-ts mag-ts in
+    let c : T (threshold-taken binary64 (p .inertial .rest .«bias_clip»)) = simp both ((simp both at t) .0 .0 .1 .0 .0 .0 .0) in
+    subst (λ (x : Float). T (threshold-taken binary64 x))
+    (sym (ap (λ (i : Inertial). i .params .rest .«bias_clip») (inertial-run binary64 f calls .half) ∙ bias-limit binary64 .kept (p .inertial) gyr-ts acc-ts (inertial-calls calls)))
+    c
+
+leaves-clipped : (gyr-ts : Float) (acc-ts mag-ts : Interval) (given : Settings) → Clipped (new binary64 gyr-ts acc-ts mag-ts given .left)
+unfolding new fresh
+leaves-clipped gyr-ts acc-ts mag-ts given =
+    keeps (λ (t : Told VQF). Clipped (t .left)) (all-taken binary64 gyr-ts acc-ts mag-ts given) _ _
+    (built-clipped (settings-or-house binary64 given) gyr-ts (interval-or acc-ts gyr-ts) (interval-or mag-ts gyr-ts))
+    (built-clipped (house binary64) _ _ _ (house-within binary64))
+
+-- ---- the calls
 inertial-half : (f : VQF) → Finite f → T (inertial.all-finite (f .inertial))
 unfolding all-finite
 inertial-half f h = (simp both at h) .0
@@ -76,26 +108,26 @@ switched f on h =
     keeps (λ (t : Told VQF). Finite (t .left)) (Bool·beq (f .inertial .params .rest .«mag_dist_rejection_enabled») on) (told 0 f) _ (λ _. h)
     (put-both _ _ (of-inertial.set-dist-finite (f .inertial) on (inertial-half f h)) (of-magnetic.restarted-finite (f .magnetic) (magnetic-half f h)))
 
-step : (f : VQF) (c : Call) → Finite f → Finite (reply binary64 f c .left)
+step : (f : VQF) (c : Call) → ClipTaken (f .inertial) → Finite f → Finite (reply binary64 f c .left)
 unfolding updates.update setters.set-tau-acc setters.set-tau-mag setters.set-motion-bias-est-enabled setters.set-rest-bias-est-enabled setters.set-rest-detection-thresholds setters.set-bias-estimate setters.set-mag-ref setters.reset-state
-step f (update-gyr v) h = gyr-at-its-interval f v h
-step f (update-acc v) h = acc f v h
-step f (update-mag v) h = mag f v h
-step f (update-gyr-with-ts v ts) h = gyr f v ts h
-step f (update g a m) h = sample _ m (acc _ a (gyr-at-its-interval f g h))
-step f (set-tau-acc tau) h = put-inertial f _ h (of-inertial.set-tau-acc-finite (f .inertial) tau (inertial-half f h))
-step f (set-tau-mag tau) h = put-magnetic f _ h (of-magnetic.set-tau-mag-finite (f .magnetic) tau (magnetic-half f h))
-step f (set-motion-bias-est-enabled on) h = put-inertial f _ h (of-inertial.set-motion-finite (f .inertial) on (inertial-half f h))
-step f (set-rest-bias-est-enabled on) h = put-inertial f _ h (of-inertial.set-rest-finite (f .inertial) on (inertial-half f h))
-step f (set-mag-dist-rejection-enabled on) h = switched f on h
-step f (set-rest-detection-thresholds g a) h = put-inertial f _ h (of-inertial.set-thresholds-finite (f .inertial) g a (inertial-half f h))
-step f (set-mag-ref norm dip) h = put-magnetic f _ h (of-magnetic.set-mag-ref-finite (f .magnetic) norm dip (magnetic-half f h))
-step f (set-bias-estimate v sigma) h = put-inertial f _ h (of-inertial.set-bias-finite (f .inertial) v sigma (inertial-half f h))
-step f reset-state h = put-both _ _ (of-inertial.reset-finite (f .inertial) (inertial-half f h)) (of-magnetic.reset-finite (f .magnetic) (magnetic-half f h))
+step f (update-gyr v) k h = gyr-at-its-interval f v h
+step f (update-acc v) k h = acc f v h
+step f (update-mag v) k h = mag f v h
+step f (update-gyr-with-ts v ts) k h = gyr f v ts h
+step f (update g a m) k h = sample _ m (acc _ a (gyr-at-its-interval f g h))
+step f (set-tau-acc tau) k h = put-inertial f _ h (of-inertial.set-tau-acc-finite (f .inertial) tau (inertial-half f h))
+step f (set-tau-mag tau) k h = put-magnetic f _ h (of-magnetic.set-tau-mag-finite (f .magnetic) tau (magnetic-half f h))
+step f (set-motion-bias-est-enabled on) k h = put-inertial f _ h (of-inertial.set-motion-finite (f .inertial) on (inertial-half f h))
+step f (set-rest-bias-est-enabled on) k h = put-inertial f _ h (of-inertial.set-rest-finite (f .inertial) on (inertial-half f h))
+step f (set-mag-dist-rejection-enabled on) k h = switched f on h
+step f (set-rest-detection-thresholds g a) k h = put-inertial f _ h (of-inertial.set-thresholds-finite (f .inertial) g a (inertial-half f h))
+step f (set-mag-ref norm dip) k h = put-magnetic f _ h (of-magnetic.set-mag-ref-finite (f .magnetic) norm dip (magnetic-half f h))
+step f (set-bias-estimate v sigma) k h = put-inertial f _ h (of-inertial.set-bias-finite (f .inertial) v sigma k (inertial-half f h))
+step f reset-state k h = put-both _ _ (of-inertial.reset-finite (f .inertial) (inertial-half f h)) (of-magnetic.reset-finite (f .magnetic) (magnetic-half f h))
 
-steps : (f : VQF) (calls : List Call) → Finite f → Finite (run binary64 f calls)
-steps f [] h = h
-steps f (c ∷ cs) h = steps (reply binary64 f c .left) cs (step f c h)
+steps : (f : VQF) (calls : List Call) → Clipped f → Finite f → Finite (run binary64 f calls)
+steps f [] k h = h
+steps f (c ∷ cs) k h = steps (reply binary64 f c .left) cs (λ ds. k (c ∷ ds)) (step f c (k []) h)
 
 pub stays-finite : StaysFinite
-stays-finite gyr-ts acc-ts mag-ts given calls = steps _ calls (construction .leaves-finite gyr-ts acc-ts mag-ts given)
+stays-finite gyr-ts acc-ts mag-ts given calls = steps _ calls (leaves-clipped gyr-ts acc-ts mag-ts given) (construction .leaves-finite gyr-ts acc-ts mag-ts given)

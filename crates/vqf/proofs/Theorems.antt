@@ -4,7 +4,9 @@ use Rattle.numbers.proofs.Ranges.{ranges}
 use Rattle.algebra.proofs.Inverses.{inverses}
 use Rattle.filters.proofs.Bounds.{bounds}
 use Rattle.filters.proofs.InStep.{stay-in-step}
+use Rattle.limits.proofs.BySize.{by-size}
 use Rattle.inertial.proofs.HalfTurn.{half-turn}
+use Rattle.inertial.proofs.BiasLimit.{bias-limit}
 use Rattle.vqf.specs.Theorems.{Theorems}
 use Rattle.vqf.proofs.ByTable.{answers}
 use Rattle.vqf.proofs.Refused.{refused}
@@ -22,6 +24,8 @@ theorems = record {
   construction = construction;
   stays-finite = stays-finite;
   answers-finite = answers-finite;
+  by-size = by-size;
+  bias-limit = bias-limit;
   apart = apart;
   rest-from-history = rest-from-history;
   half-turn = half-turn;

@@ -24,9 +24,9 @@ use Rattle.inertial.specs.Setup as inertial
 use Rattle.inertial.specs.Setters as setters
 use Rattle.vqf.specs.Build.{house, built, fresh}
 use Rattle.vqf.specs.Update.{update-gyr, update-gyr-with-ts, update-acc}
-use Rattle.vqf.specs.Setters.{set-tau-acc}
+use Rattle.vqf.specs.Setters.{set-tau-acc, set-bias-estimate}
 use Rattle.vqf.specs.Asked.{quat-6d}
-use Rattle.vqf.specs.Worked.{scaled, filled, house-at, level, Worked}
+use Rattle.vqf.specs.Worked.{scaled, filled, house-at, level, BiasValues, Worked}
 
 tau-below : set-tau-acc binary64 (fresh binary64) (decimal binary64 9 1000) .number ≡ 4
 unfolding set-tau-acc setters.set-tau-acc fresh built house inertial.new inertial.setup inertial.house le round ofBits
@@ -35,6 +35,18 @@ tau-below = refl
 tau-taken : set-tau-acc binary64 (fresh binary64) (decimal binary64 1 100) .number ≡ 0
 unfolding set-tau-acc setters.set-tau-acc setters.retuned setters.finite-coeffs setters.adapted-inclination setters.adapted-bias adapted adapt2 adapt3 adapt9 first-numbers finite-channels finite-channel filter-adapt-state-for-coeff-change filter-coeffs angle coeffs tan ksin kcos clamp fresh built house inertial.new inertial.setup inertial.house inertial.fresh-state inertial.fresh-rest add sub mul div neg lt eq le round ofBits
 tau-taken = refl
+
+biases : BiasValues
+unfolding set-bias-estimate setters.set-bias-estimate setters.sigma-or-none-taken setters.with-estimate fresh built house inertial.new inertial.setup inertial.house all-within mul div neg le ofInt round ofBits toBits
+biases = record {
+  at-clip = ((refl, refl), (refl, refl));
+  beyond = ((refl, refl, refl), (refl, refl, refl), (refl, refl, refl));
+  minus-zero = (refl, refl);
+  at-ninety = ((refl, refl), (refl, refl, refl), (refl, refl), (refl, refl, refl));
+  at-least = ((refl, refl), (refl, refl, refl));
+  sigma-taken = refl;
+  sigma-above = refl;
+}
 
 gyr-taken : update-gyr binary64 (fresh binary64) (vectors.vector (algebra.whole 100) (algebra.whole 0) (algebra.whole 0)) .number ≡ 0
 unfolding update-gyr gyr.update-gyr-with-ts gyr.gyr-step gyr.gyr-rest gyr.gyr-filtered gyr.gyr-stirred gyr.squared-deviation gyr.broken gyr.finite-gyr-rest gyr.predicted gyr.turned vectors.norm vectors.finite quaternions.times quaternions.normalize quaternions.norm quaternions.finite filter-vec3 outputs channels filter-channel average finite-channels finite-channel fresh built house inertial.new inertial.setup inertial.house inertial.fresh-state inertial.fresh-rest all-within magnitude root sine cosine sine-of cosine-of reduce ksin kcos clamp add sub mul div neg lt eq le ofInt round ofBits
@@ -76,6 +88,7 @@ worked = record {
   acc-no-number = acc-calls .3;
   tau-taken = tau-taken;
   tau-below = tau-below;
+  bias = biases;
   root-taken = refl;
   root-of-zero = refl;
 }

@@ -5,7 +5,9 @@ use Rattle.numbers.specs.Ranges.{Ranges}
 use Rattle.algebra.specs.Inverses.{Inverses}
 use Rattle.filters.specs.Bounds.{Bounds}
 use Rattle.filters.specs.InStep.{StayInStep}
+use Rattle.limits.specs.BySize.{BySize}
 use Rattle.inertial.specs.HalfTurn.{HalfTurn}
+use Rattle.inertial.specs.BiasLimit.{BiasLimit}
 use Rattle.vqf.specs.Answers.{Answers}
 use Rattle.vqf.specs.Refused.{Refused}
 use Rattle.vqf.specs.Construction.{Construction}
@@ -27,6 +29,10 @@ pub record Theorems : Type 0 where
   pub stays-finite : StaysFinite
   -- and so is every number that it answers when asked, `quat_9d` apart
   pub answers-finite : AnswersStayFinite
+  -- what lies within ±limit is no NaN and not in size beyond it
+  pub by-size : BySize
+  -- a bias is taken exactly where the gyro step would not find it beyond the clip, and no call changes the clip
+  pub bias-limit : (w : Format) → BiasLimit w
   -- ---- Steel cannot touch the tilt.
   -- nothing magnetic reaches tilt, bias, covariance, rest flag or non-magnetic answers
   pub apart : (w : Format) → Apart w

@@ -3,7 +3,7 @@ use mathlib.Core.Path.{_≡_}
 use mathlib.Core.List.{[], _∷_}
 use Prim.Native.Nat.{ℕ, _+_, _^_}
 use lib.Ieee.{Float, nan, binary64, neg, ofBits, toBits}
-use Rattle.floats.specs.Decimals.{decimal}
+use Rattle.floats.specs.Decimals.{decimal, hundredth}
 use Rattle.numbers.specs.Root.{root}
 use Rattle.algebra.specs.Values.{whole, part}
 use Rattle.algebra.specs.Vectors.{vector}
@@ -17,10 +17,13 @@ use Rattle.filters.specs.Banks.{filter-vec3}
 use Rattle.filters.specs.declared.coeffs.Coeffs.{Coeffs}
 use Rattle.limits.specs.Answers.{told}
 use Rattle.inertial.specs.Told.{state-of, with-state}
+use Rattle.inertial.specs.Setters.{with-rest-params}
 use Rattle.inertial.specs.declared.types.Bias.{Bias}
+use Rattle.inertial.specs.declared.types.RestParams.{RestParams}
+use Rattle.inertial.specs.declared.setters.Sigma.the-variants.{Absent, Given}
 use Rattle.vqf.specs.Build as build
 use Rattle.vqf.specs.Update.{update-gyr, update-gyr-with-ts, update-acc}
-use Rattle.vqf.specs.Setters.{set-tau-acc}
+use Rattle.vqf.specs.Setters.{set-tau-acc, set-bias-estimate}
 use Rattle.vqf.specs.Asked.{quat-6d}
 use Rattle.vqf.specs.declared.types.VQF.{VQF}
 
@@ -55,6 +58,60 @@ level = vector (whole 0) (whole 0) (decimal binary64 981 100)
 
 abbrev next-above : Float → Float
 next-above x = ofBits binary64 (toBits binary64 x + 1)
+
+-- the house filter with another `bias_clip`
+abbrev house-clipped : Float → VQF
+house-clipped clip =
+    let p = house .inertial .params in
+    let rest : RestParams = record {
+      «rest_bias_est_enabled» = p .rest .«rest_bias_est_enabled»;
+      «mag_dist_rejection_enabled» = p .rest .«mag_dist_rejection_enabled»;
+      «bias_clip» = clip;
+      «rest_min_t» = p .rest .«rest_min_t»;
+      «rest_filter_tau» = p .rest .«rest_filter_tau»;
+      «rest_th_gyr» = p .rest .«rest_th_gyr»;
+      «rest_th_acc» = p .rest .«rest_th_acc»;
+    } in
+    let ts = hundredth binary64 in
+    build.built binary64 (record { inertial = with-rest-params p rest; magnetic = house .magnetic .params }) ts ts ts
+
+-- `set_bias_estimate` without a standard deviation: it stores the three numbers; or it answers 4 and leaves the filter as it was, whichever of the three x is
+abbrev Takes : VQF → Vector → Type 0
+Takes f v = let told = set-bias-estimate binary64 f v Absent in (told .number ≡ 0) × (told .left .inertial .state .bias .bias ≡ v)
+
+abbrev Refuses : VQF → Float → Type 0
+Refuses f x =
+    (set-bias-estimate binary64 f (vector x (whole 0) (whole 0)) Absent ≡ told 4 f)
+    × (set-bias-estimate binary64 f (vector (whole 0) x (whole 0)) Absent ≡ told 4 f)
+    × (set-bias-estimate binary64 f (vector (whole 0) (whole 0) x) Absent ≡ told 4 f)
+
+abbrev thrice : Float → Vector
+thrice x = vector x x x
+
+-- 2, 90 and 0.0001 degrees a second in radians
+abbrev house-clip : Float
+house-clip = decimal binary64 3490658503988659 (10 ^ 17)
+
+abbrev quarter-turn : Float
+quarter-turn = decimal binary64 15707963267948966 (10 ^ 16)
+
+abbrev least-clip : Float
+least-clip = decimal binary64 17453292519943296 (10 ^ 22)
+
+pub record BiasValues : Type 0 where
+  -- "A component exactly on the clip is taken", in either sign; the next binary64 beyond and a NaN give 4
+  pub at-clip : Takes house (thrice house-clip) × Takes house (thrice (neg house-clip))
+  pub beyond : Refuses house (next-above house-clip) × Refuses house (neg (next-above house-clip)) × Refuses house nan
+  pub minus-zero : Takes house (thrice (neg (whole 0)))
+  -- with `bias_clip` 90 a component of 1.5 is taken, which the house refuses, and up to PI/2
+  pub at-ninety :
+      let f = house-clipped (whole 90) in
+      Takes f (thrice (decimal binary64 3 2)) × Refuses house (decimal binary64 3 2) × Takes f (thrice quarter-turn) × Refuses f (next-above quarter-turn)
+  -- with `bias_clip` 0.0001 the clip is `bias_clip * (PI / 180)`; `bias_clip * PI / 180` is the next binary64 below, while at 2 and 90 the two are equal
+  pub at-least : let f = house-clipped (decimal binary64 1 (10 ^ 4)) in Takes f (thrice least-clip) × Refuses f (next-above least-clip)
+  -- the standard deviation is taken up to 100, as before
+  pub sigma-taken : set-bias-estimate binary64 house (thrice house-clip) (Given (whole 100)) .number ≡ 0
+  pub sigma-above : set-bias-estimate binary64 house (thrice house-clip) (Given (next-above (whole 100))) .number ≡ 4
 
 pub record Worked : Type 0 where
   -- "(1,2,3,4) times (5,6,7,8) = (-60,12,30,24)"
@@ -101,6 +158,8 @@ pub record Worked : Type 0 where
   -- "`tau_acc` 0.01 at the house interval is taken; 0.009 gives 4"
   pub tau-taken : set-tau-acc binary64 house (decimal binary64 1 100) .number ≡ 0
   pub tau-below : set-tau-acc binary64 house (decimal binary64 9 1000) .number ≡ 4
+  -- what `set_bias_estimate` takes
+  pub bias : BiasValues
   -- "square root of 2.25 is 1.5; of -0 is -0"
   pub root-taken : root binary64 (decimal binary64 9 4) ≡ decimal binary64 3 2
   pub root-of-zero : root binary64 (neg (whole 0)) ≡ neg (whole 0)
