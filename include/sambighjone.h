@@ -33,7 +33,7 @@ enum sambighjone_answer {
     SAMBIGHJONE_DONE = 0,
     /* an accelerometer or magnetometer sample is all zero */
     SAMBIGHJONE_ZERO_SAMPLE = 1,
-    /* a sample's component is a NaN or outside its limits: rates 100, accelerations 1000, field
+    /* a sample's component is a NaN or outside its limits: rates 200, accelerations 1000, field
      * 1000000 */
     SAMBIGHJONE_BAD_SAMPLE = 2,
     /* the interval of a sample is outside 0.0001 to 1 */

@@ -1,11 +1,13 @@
 //! check_math: the values that document 01 states for the functions of numbers, the fixed
-//! NaN outside each domain, and how far the functions are from the machine's own.
+//! NaN outside each domain, that the reduction of an angle is exact where it must be, and how far the
+//! functions are from the machine's own.
 
 mod port_math;
 #[allow(dead_code)]
 mod random;
 
-use port_math::{acos, asin, atan2, cos, exp, fabs, sin, sqrt, tan_f64};
+use port_math::{acos, asin, atan2, cos, exp, fabs, quarter_turns, sin, sqrt, tan_f64};
+use port_math::{P1, P2, SIN_COS_LIMIT};
 use random::Random;
 use std::f64::consts::PI;
 use std::process::exit;
@@ -18,8 +20,9 @@ const ARGUMENTS: u64 = 2_000_000;
 fn main() {
     let exact = check_exact();
     let nan = check_outside();
+    let reduction = check_reduction();
     let close = check_close();
-    exit(i32::from(!(exact && nan && close)));
+    exit(i32::from(!(exact && nan && reduction && close)));
 }
 
 fn check_exact() -> bool {
@@ -62,12 +65,12 @@ fn check_outside() -> bool {
         sqrt(-f64::from_bits(1)),
         sqrt(-infinity),
         sqrt(f64::NAN),
-        sin(128.0f64.next_up()),
-        sin(-128.0f64.next_up()),
+        sin(SIN_COS_LIMIT.next_up()),
+        sin(-SIN_COS_LIMIT.next_up()),
         sin(infinity),
         sin(-f64::NAN),
-        cos(128.0f64.next_up()),
-        cos(-128.0f64.next_up()),
+        cos(SIN_COS_LIMIT.next_up()),
+        cos(-SIN_COS_LIMIT.next_up()),
         cos(-infinity),
         cos(f64::NAN),
         tan_f64(-f64::from_bits(1)),
@@ -96,6 +99,34 @@ fn check_outside() -> bool {
     wrong.count() == 0
 }
 
+/// k * P1 and k * P2 for every k that an angle of the domain can have, and x - k * P1.
+fn check_reduction() -> bool {
+    let most = quarter_turns(SIN_COS_LIMIT) as u64;
+    let rounds = |k: f64, part: f64| k.mul_add(part, -(k * part)) != 0.0;
+    let products = (0..=most).filter(|k| rounds(*k as f64, P1) || rounds(*k as f64, P2));
+    let mut random = Random::seeded(3);
+    let differences = (0..ARGUMENTS).filter(|i| {
+        let multiple = (i % (2 * most + 1)) as f64 * (PI / 4.0);
+        let angle = match random.below(4) {
+            0 => multiple.next_up(),
+            1 => multiple.next_down(),
+            2 => multiple + random.between(-0.4, 0.4),
+            _ => random.between(0.0, SIN_COS_LIMIT),
+        };
+        rest(angle, quarter_turns(angle) * P1) != 0.0
+    });
+    let (products, differences) = (products.count(), differences.count());
+    println!("k up to {most}: {products} rounded products; {differences} rounded differences over {ARGUMENTS} arguments");
+    products + differences == 0
+}
+
+/// What rounding takes from a - b.
+fn rest(a: f64, b: f64) -> f64 {
+    let difference = a - b;
+    let back = difference - a;
+    (a - (difference - back)) - (b + back)
+}
+
 fn check_close() -> bool {
     let one = |low, high, port: fn(f64) -> f64, own: fn(f64) -> f64| {
         let mut random = Random::seeded(1);
@@ -104,8 +135,8 @@ fn check_close() -> bool {
     };
     let gaps = [
         ("sqrt", one(0.0, 4.0, sqrt, f64::sqrt)),
-        ("sin", one(-128.0, 128.0, sin, f64::sin)),
-        ("cos", one(-128.0, 128.0, cos, f64::cos)),
+        ("sin", one(-SIN_COS_LIMIT, SIN_COS_LIMIT, sin, f64::sin)),
+        ("cos", one(-SIN_COS_LIMIT, SIN_COS_LIMIT, cos, f64::cos)),
         ("tan", one(0.0, 0.75, tan_f64, f64::tan)),
         ("exp", one(-20.0, 0.0, exp, f64::exp)),
         ("exp", one(-10000.0, 0.0, exp, f64::exp)),

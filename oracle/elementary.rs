@@ -51,8 +51,8 @@ fn part(s: u64) -> f64 {
 
 fn even(s: u64, t: u64) {
     let (u, v) = (part(s), part(t));
-    put(port::sin(256.0 * u - 128.0));
-    put(port::cos(256.0 * u - 128.0));
+    put(port::sin(512.0 * u - 256.0));
+    put(port::cos(512.0 * u - 256.0));
     put(port::sin(8.0 * v - 4.0));
     put(port::cos(8.0 * v - 4.0));
     put(port::tan_f64(0.75 * u));
@@ -92,6 +92,10 @@ fn main() {
         0x4002_d97c_7f33_21d2,
         0x4009_21fb_5444_2d18,
         0x4060_0000_0000_0000,
+        0x4065_d218_013e_214b,
+        0x406f_cf02_16a6_4912,
+        0x406f_e824_11fa_8d3f,
+        0x4070_0000_0000_0000,
         0x4086_2000_0000_0000,
         0x40c3_8800_0000_0000,
         0x7fef_ffff_ffff_ffff,

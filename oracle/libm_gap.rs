@@ -185,7 +185,7 @@ fn atan2() -> bool {
 }
 
 fn main() {
-    let quarters: Vec<f64> = (0..=163)
+    let quarters: Vec<f64> = (0..=326)
         .map(|k| k as f64 * FRAC_PI_4)
         .chain([0.785])
         .collect();
@@ -195,8 +195,8 @@ fn main() {
         .collect();
     let halves = [0.5, 0.25, 0.75, 1.0];
     let well = [
-        one("sin", -128.0, 128.0, &quarters, port::sin, f64::sin),
-        one("cos", -128.0, 128.0, &quarters, port::cos, f64::cos),
+        one("sin", -256.0, 256.0, &quarters, port::sin, f64::sin),
+        one("cos", -256.0, 256.0, &quarters, port::cos, f64::cos),
         one("tan", 0.0, 0.75, &[0.5, 0.25], port::tan_f64, f64::tan),
         one("exp", -10000.0, 0.0, &logs, port::exp, f64::exp),
         one("exp", -745.0, 0.0, &logs, port::exp, f64::exp),

@@ -23,7 +23,7 @@ const fn within(size: f64) -> Range {
     range(-size, size)
 }
 
-pub const GYR: Range = within(100.0);
+pub const GYR: Range = within(200.0);
 pub const ACC: Range = within(1000.0);
 pub const MAG: Range = within(1_000_000.0);
 pub const INTERVAL: Range = range(0.0001, 1.0);

@@ -38,12 +38,28 @@ fn within(low: f64, high: f64, random: &mut Random) -> f64 {
 }
 
 fn for_sin_cos(random: &mut Random) -> f64 {
-    let eighth = (random.below(342) as f64 - 171.0) * (PI / 4.0);
+    let eighth = (random.below(670) as f64 - 335.0) * (PI / 4.0);
     match random.below(4) {
         0 => near(eighth, random),
         1 => near(random.pick(&[0.785, -0.785, PI / 2.0, PI]), random),
-        _ => within(-128.0, 128.0, random),
+        _ => within(-256.0, 256.0, random),
     }
+}
+
+/// An angle from 128 to 256, of either sign: anywhere, a multiple of PI/4 or one of its neighbours, or
+/// at some distance from one.
+pub fn far_angle(random: &mut Random) -> f64 {
+    let multiple = (163 + random.below(163)) as f64 * (PI / 4.0);
+    let angle = match random.below(8) {
+        0 | 1 => f64::from_bits(multiple.to_bits() + random.below(401) - 200),
+        2 => {
+            let distance = random.log_between(1e-14, 0.4);
+            multiple + random.signed(distance)
+        }
+        3 => near(random.pick(&[128.0, 256.0]), random),
+        _ => random.between(128.0, 256.0),
+    };
+    random.signed(angle.clamp(128.0, 256.0))
 }
 
 fn for_exp(random: &mut Random) -> f64 {

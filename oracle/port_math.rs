@@ -7,7 +7,7 @@
 const NAN: f64 = f64::from_bits(0x7ff8000000000000);
 
 /// Sine and cosine serve arguments from `-SIN_COS_LIMIT` to `SIN_COS_LIMIT`.
-const SIN_COS_LIMIT: f64 = 128.0;
+pub const SIN_COS_LIMIT: f64 = 256.0;
 /// Up to here no reduction is needed; the bits are the same with it.
 const NO_REDUCTION: f64 = 0.785;
 const TAN_LIMIT: f64 = 0.75;
@@ -17,8 +17,8 @@ const EXP_FLUSH: f64 = -708.0;
 
 const MAGIC: f64 = 6755399441055744.0; // 0x4338000000000000, 1.5 * 2^52
 const TWO_OVER_PI: f64 = 0.6366197723675814; // 0x3fe45f306dc9c883
-const P1: f64 = 1.5707963267948912; // 0x3ff921fb54442d00, pi/2, first 45 bits
-const P2: f64 = 5.390302858158031e-15; // 0x3cf8469898cc5100, pi/2, next 45 bits
+pub const P1: f64 = 1.5707963267948912; // 0x3ff921fb54442d00, pi/2, first 45 bits
+pub const P2: f64 = 5.390302858158031e-15; // 0x3cf8469898cc5100, pi/2, next 45 bits
 const P3: f64 = 8.843720566135701e-29; // 0x3a1c06e0e6894812, pi/2, rest
 const PI: f64 = 3.141592653589793; // 0x400921fb54442d18
 const PI_LO: f64 = 1.2246467991473532e-16; // 0x3ca1a62633145c07, pi - PI
@@ -127,9 +127,14 @@ fn cos_kernel(r: f64, d: f64) -> f64 {
     1.0 - (0.5 * z - (w * p + r * d))
 }
 
+/// The whole number nearest to x * 2/pi.
+pub fn quarter_turns(x: f64) -> f64 {
+    (x * TWO_OVER_PI + MAGIC) - MAGIC
+}
+
 /// (m, r, d) with x = k*pi/2 + (r - d) and m = k mod 4, one of -2, -1, 0, 1, 2
 fn reduce(x: f64) -> (f64, f64, f64) {
-    let k = (x * TWO_OVER_PI + MAGIC) - MAGIC;
+    let k = quarter_turns(x);
     let a = x - k * P1;
     let b = k * P2;
     let r = a - b;

@@ -20,7 +20,7 @@ use std::io::{self, BufWriter, StdoutLock, Write};
 use std::process::exit;
 use values::Draw;
 
-const KINDS: [(&str, fn(&mut Script)); 20] = [
+const KINDS: [(&str, fn(&mut Script)); 22] = [
     ("still", |script| script.realistic(Motion::Still)),
     ("walking", |script| script.realistic(Motion::Walking)),
     ("trolley", |script| script.realistic(Motion::Trolley)),
@@ -30,6 +30,7 @@ const KINDS: [(&str, fn(&mut Script)); 20] = [
     ("facedown", Script::face_down),
     ("setters", Script::setters),
     ("clip", Script::clip),
+    ("fast", Script::fast),
     ("limits", Script::limits),
     ("edges", Script::edges),
     ("uniform", |script| script.drawn(Draw::Uniform)),
@@ -39,6 +40,7 @@ const KINDS: [(&str, fn(&mut Script)); 20] = [
     ("covariance", Script::covariance),
     ("tiny", Script::tiny),
     ("numbers", Script::numbers),
+    ("angles", Script::angles),
     ("written", Script::written),
     ("spoiled", Script::spoiled),
 ];
@@ -378,6 +380,61 @@ impl Script {
                     _ => (),
                 }
             }
+        }
+    }
+
+    // Wrists as fast as the gyroscope reads.
+
+    /// Rates up to the limit over intervals up to the longest, against biases up to the largest clip: half
+    /// the angle of a turn goes up to its largest. Some samples, intervals and biases are refused.
+    fn fast(&mut self) {
+        while self.wanted() {
+            let ts = Intervals {
+                gyr: self.random.pick(&[0.01, 0.1, 0.5, 1.0]),
+                acc: limits::HOUSE_INTERVAL,
+                mag: limits::HOUSE_INTERVAL,
+            };
+            let mut settings = values::near_house(ts, &mut self.random);
+            settings[limits::place("rest_filter_tau")] = 1.0;
+            settings[limits::place("bias_clip")] = self.random.pick(&[2.0, 45.0, 90.0, 90.0]);
+            self.construct(ts, [false; 2], Some(&settings));
+            for _ in 0..50 + self.random.below(200) {
+                let gyr = self.fast_rate();
+                match self.random.below(12) {
+                    0 => self.bias(Draw::Ends),
+                    1 => self.upright_samples(1),
+                    2 => self.update(gyr, [0.0, 0.0, 9.81], [0.0, 20.0, -40.0]),
+                    3 | 4 => self.call("gyr", &gyr),
+                    _ => {
+                        let ts = self.long_interval();
+                        self.call("gyrts", &[gyr[0], gyr[1], gyr[2], ts]);
+                    }
+                }
+            }
+        }
+    }
+
+    fn fast_rate(&mut self) -> [f64; 3] {
+        let limit = limits::GYR;
+        let drawn = self.random.below(16);
+        [(); 3].map(|_| match drawn {
+            0..=3 => self.random.pick(&[limit.low, limit.high]),
+            4 => values::within(limit, Draw::Edges, &mut self.random),
+            5..=8 => self.random.between(limit.low, limit.high),
+            _ => {
+                let rate = self.random.between(0.7 * limit.high, limit.high);
+                self.random.signed(rate)
+            }
+        })
+    }
+
+    fn long_interval(&mut self) -> f64 {
+        let Range { low, high } = limits::INTERVAL;
+        match self.random.below(8) {
+            0 => values::within(limits::INTERVAL, Draw::Edges, &mut self.random),
+            1 => self.random.log_between(low, high),
+            2..=4 => high,
+            _ => self.random.between(0.5 * high, high),
         }
     }
 
@@ -759,6 +816,17 @@ impl Script {
             let text = numbers::line(&mut self.random);
             self.line(&text);
             self.calls_left -= 1;
+        }
+    }
+
+    /// Sine and cosine of the same angle, beyond 128.
+    fn angles(&mut self) {
+        while self.wanted() {
+            let angle = values::words(&[numbers::far_angle(&mut self.random)]);
+            for word in ["sin", "cos"] {
+                self.line(&format!("{word}{angle}"));
+            }
+            self.calls_left = self.calls_left.saturating_sub(2);
         }
     }
 }

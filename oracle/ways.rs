@@ -1,10 +1,11 @@
 //! ways ANSWERS: plays a call script from the standard input through the source and counts why
-//! accelerometer steps, and biases that are set, are answered as they are. ANSWERS is what the oracle
-//! prints for that script; it must have the same answers.
+//! accelerometer steps, biases that are set, and gyro samples are answered as they are. ANSWERS is what
+//! the oracle prints for that script; it must have the same answers.
 //!
 //! The determinants are the source's own, and so is its test of them. That 5 is the answer where
 //! one is not finite is told here, apart from the line that is amended in the oracle. So is that 4 is
 //! the answer where a bias is beyond the clip: here by the number, in the oracle by the source's gyro step.
+//! A gyro sample that is taken is told to answer 0, whatever it turns by.
 
 #[allow(dead_code)]
 mod fields;
@@ -24,6 +25,9 @@ use std::io::{self, BufRead, BufReader, Read};
 use std::process::exit;
 use vqf::{DETERMINANT, VQF};
 
+/// Half the angle at 200 rad/s in each place against a bias of PI/2, for one second.
+const LARGEST: f64 = 174.5654302800634;
+
 /// What is counted: a call, its answer, and why.
 type Step = (&'static str, Answer, String);
 
@@ -37,7 +41,7 @@ fn main() {
         .unwrap_or_else(|error| stop(&format!("cannot read {answers}: {error}")));
     let counts = count(lines_of(answers));
     if counts.is_empty() {
-        stop("no accelerometer step was played, and no bias was set");
+        stop("no accelerometer step and no gyro sample was played, and no bias was set");
     }
     print(&counts);
 }
@@ -53,9 +57,10 @@ fn count(mut answers: impl Iterator<Item = String>) -> BTreeMap<Step, u64> {
         if answer.starts_with("bad ") {
             stop(&format!("line {number} of the scripts is no call"));
         }
-        if let Some(step) = play_line(&mut filter, &line) {
+        let steps = play_line(&mut filter, &line).unwrap_or_default();
+        for (step, told) in steps.into_iter().zip(answer.split(' ').skip(1)) {
             let due = step.1 as u8;
-            if told(&answer) != Some(&due.to_string()) {
+            if told != due.to_string() {
                 let why = &step.2;
                 stop(&format!(
                     "line {number}: {due}, {why}. The oracle has: {answer}"
@@ -67,36 +72,54 @@ fn count(mut answers: impl Iterator<Item = String>) -> BTreeMap<Step, u64> {
     counts
 }
 
-/// The word of an output line that answers an accelerometer step or a bias.
-fn told(answer: &str) -> Option<&str> {
-    let words: Vec<&str> = answer.split(' ').collect();
-    match words.as_slice() {
-        ["acc" | "bias", answer] | ["upd", _, answer, _] => Some(answer),
-        _ => None,
-    }
-}
-
-/// Plays a line; its accelerometer step or its bias, if it has one.
-fn play_line(filter: &mut VQF, line: &str) -> Option<Step> {
+/// Plays a line; what is counted of it, in the order of its answers.
+fn play_line(filter: &mut VQF, line: &str) -> Option<Vec<Step>> {
     let words = words::words(line.as_bytes())?;
     let (word, arguments) = words.split_first()?;
-    match *word {
-        "acc" => Some(play_acc(filter, script::numbers(arguments)?)),
-        "upd" => {
-            let (gyr, acc, mag) = script::update_arguments(arguments)?;
-            rules::play(filter, &Call::Gyr(gyr));
-            let step = play_acc(filter, acc);
-            mag.map(|mag| rules::play(filter, &Call::Mag(mag)));
-            Some(step)
-        }
-        _ => match script::call(word, arguments)? {
-            Call::Bias(bias, sigma) => Some(play_bias(filter, bias, sigma)),
-            call => {
-                rules::play(filter, &call);
-                None
-            }
-        },
+    if *word == "upd" {
+        let (gyr, acc, mag) = script::update_arguments(arguments)?;
+        let steps = vec![play_gyr(filter, gyr, None), play_acc(filter, acc)];
+        mag.map(|mag| rules::play(filter, &Call::Mag(mag)));
+        return Some(steps);
     }
+    let step = match script::call(word, arguments)? {
+        Call::Gyr(gyr) => play_gyr(filter, gyr, None),
+        Call::GyrWithTs(gyr, ts) => play_gyr(filter, gyr, Some(ts)),
+        Call::Acc(acc) => play_acc(filter, acc),
+        Call::Bias(bias, sigma) => play_bias(filter, bias, sigma),
+        call => {
+            rules::play(filter, &call);
+            return None;
+        }
+    };
+    Some(vec![step])
+}
+
+/// A gyro sample, by half the angle that it turns by. The domain of sine and cosine was 128 once, and
+/// 88 is the next whole number above the largest half angle with rates up to 100.
+fn play_gyr(filter: &mut VQF, gyr: [f64; 3], ts: Option<f64>) -> Step {
+    let bias = filter.state().bias;
+    let norm = (0..3).map(|i| gyr[i] - bias[i]).map(|rate| rate * rate);
+    let half = norm.sum::<f64>().sqrt() * ts.unwrap_or(filter.coeffs().gyr_ts) / 2.0;
+    let call = ts.map_or(Call::Gyr(gyr), |ts| Call::GyrWithTs(gyr, ts));
+    rules::play(filter, &call);
+    let (answer, why) = if !gyr.iter().all(|rate| limits::GYR.takes(*rate)) {
+        (Answer::SampleOutside, "the sample is outside its limits")
+    } else if ts.is_some_and(|ts| !limits::INTERVAL.takes(ts)) {
+        (
+            Answer::IntervalOutside,
+            "the interval is outside its limits",
+        )
+    } else if half <= 88.0 {
+        (Answer::Done, "taken, half the angle up to 88")
+    } else if half <= 128.0 {
+        (Answer::Done, "taken, half the angle up to 128")
+    } else if half < LARGEST {
+        (Answer::Done, "taken, half the angle beyond 128")
+    } else {
+        (Answer::Done, "taken, half the angle the largest there is")
+    };
+    ("gyr", answer, why.to_string())
 }
 
 fn play_acc(filter: &mut VQF, acc: [f64; 3]) -> Step {

@@ -10,8 +10,8 @@ use lib.Ieee.Fits.{add-fits}
 use lib.Ieee.Scale as scale
 use Rattle.floats.specs.Notation.{Rounded, rounded}
 use Rattle.floats.specs.Definitions.{magnitude}
-use Rattle.floats.specs.Tests.{both}
-use Rattle.floats.specs.Order.{nought, le-tr, le-rf, lt→nle, nlt→le, le→number, Within, widen}
+use Rattle.floats.specs.Tests.{both, keeps}
+use Rattle.floats.specs.Order.{nought, le-tr, le-rf, lt→nle, nlt→le, le→number, Within, within-finite, widen}
 use Rattle.floats.specs.Quotients.{positive-up}
 use Rattle.floats.specs.Products.{square-from, finite-number}
 use Rattle.floats.specs.Intervals.{Known, none, known, Expr, var, add·, sub·, mul·, div·, bound, inside, bounded, is-finite}
@@ -60,7 +60,7 @@ module _ (w : Format) where
       sum-grows w _ _ _ _ s₂ g₂ p₃ (square-grows w (p .3) (q .3) (P .3) (Q .3) d)
 
 -- ---- what one large component makes of that sum, wherever it stands
-abbrev power : ℕ → Float
+abbrev pub power : ℕ → Float
 power k = fin false 1 (pos k)
 
 abbrev Alone : Float → Float → Type 0
@@ -114,7 +114,7 @@ all-under q Q =
       record { finite-x = Q .3; fits-s = f; from-s = g; large = a .3; largest = b .3 },
     )
 
-abbrev Small : Float → Type 0
+abbrev pub Small : Float → Type 0
 Small x = Within x (neg (power 352)) (power 352)
 
 abbrev pub AllSmall : Quaternion → Type 0
@@ -178,23 +178,45 @@ divided x (fin s m e) u t = elim (component x (power 300) (u .finite-x) tt) [
     quotient : (c b : Float) (w : Within x (neg c) c) (h : T (le b n)) → T (inside (bound binary64 (known x (neg c) c w (known n b (power 512) (h, around .1) none)) (div· (var 0) (var 1))) (neg (power 352)) (power 352)) → Small (div binary64 x n)
     quotient c b w h i = bounded binary64 (known x (neg c) c w (known n b (power 512) (h, around .1) none)) (div· (var 0) (var 1)) (neg (power 352)) (power 352) i
 
-pub normalized-small : (q : Quaternion) → T (finite (normalize binary64 q)) → AllSmall (normalize binary64 q)
+abbrev norm-of : Quaternion → Float
+norm-of q = root binary64 (squares binary64 q)
+
+abbrev over : Quaternion → Float → Quaternion
+over q n = quaternion (div binary64 (q .0) n) (div binary64 (q .1) n) (div binary64 (q .2) n) (div binary64 (q .3) n)
+
+-- what is finite before is small after
+pub normalize-small : (q : Quaternion) → T (finite q) → AllSmall (normalize binary64 q)
 unfolding normalize norm
-normalized-small q = go (lt n (epsilon binary64)) (λ (t : _). t) (λ (t : _). t)
+normalize-small q h = go (lt n (epsilon binary64)) (λ (t : _). t) (λ (t : _). t)
   where
     n : Float
-    n = root binary64 (squares binary64 q)
+    n = norm-of q
 
-    go : (b : Bool) → (T b → T (lt n (epsilon binary64))) → (T (not b) → T (not (lt n (epsilon binary64))))
-        → (let r = cond b q (quaternion (div binary64 (q .0) n) (div binary64 (q .1) n) (div binary64 (q .2) n) (div binary64 (q .3) n)) in T (finite r) → AllSmall r)
-    go true t f h =
-        let u = all-under q (each-finite q h) in
-        (kept _ _ (u .0) (t tt), kept _ _ (u .1) (t tt), kept _ _ (u .2) (t tt), kept _ _ (u .3) (t tt))
-    go false t f h =
-        let r = each-finite _ h in
-        let of : (x : Float) → Finite (div binary64 x n) → Finite x = λ x. numerator-finite binary64 x n in
-        let u = all-under q (of _ (r .0), of _ (r .1), of _ (r .2), of _ (r .3)) in
-        (divided _ _ (u .0) (f tt), divided _ _ (u .1) (f tt), divided _ _ (u .2) (f tt), divided _ _ (u .3) (f tt))
+    u : Each (λ x. Under x (squares binary64 q)) q
+    u = all-under q (each-finite q h)
+
+    go : (b : Bool) → (T b → T (lt n (epsilon binary64))) → (T (not b) → T (not (lt n (epsilon binary64)))) → AllSmall (cond b q (over q n))
+    go true t f = (kept _ _ (u .0) (t tt), kept _ _ (u .1) (t tt), kept _ _ (u .2) (t tt), kept _ _ (u .3) (t tt))
+    go false t f = (divided _ _ (u .0) (f tt), divided _ _ (u .1) (f tt), divided _ _ (u .2) (f tt), divided _ _ (u .3) (f tt))
+
+finite-before : (q : Quaternion) → T (finite (normalize binary64 q)) → T (finite q)
+unfolding normalize norm finite
+finite-before q =
+    let n = norm-of q in
+    let of : (x : Float) → Finite (div binary64 x n) → Finite x = λ x. numerator-finite binary64 x n in
+    keeps (λ (r : Quaternion). T (finite r) → T (finite q)) (lt n (epsilon binary64)) q (over q n) (λ _ h. h)
+    (λ h.
+    let r = simp both at h in
+    simp both (((of _ (r .0 .0 .0), of _ (r .0 .0 .1)), of _ (r .0 .1)), of _ (r .1)))
+
+pub normalized-small : (q : Quaternion) → T (finite (normalize binary64 q)) → AllSmall (normalize binary64 q)
+normalized-small q h = normalize-small q (finite-before q h)
+
+pub small-finite : (q : Quaternion) → AllSmall q → T (finite q)
+unfolding finite neg
+small-finite q a =
+    let one : (x : Float) → Small x → Finite x = λ x. within-finite x _ _ tt tt in
+    simp both (((one _ (a .0), one _ (a .1)), one _ (a .2)), one _ (a .3))
 
 -- ---- the product of two such
 pub times-finite : (p q : Quaternion) → AllSmall p → AllSmall q → T (finite (times binary64 p q))

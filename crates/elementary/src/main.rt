@@ -29,7 +29,7 @@ fn put_about(n: u64) {
     put_both(std::num::wrapping_add_u64(n, 1));
 }
 
-// The ends of the domains and of the branches, and multiples of pi / 4.
+// The ends of the domains and of the branches, multiples of pi / 4, and the largest half angle of a gyro step.
 fn edges() {
     put_about(0x0000_0000_0000_0000);
     put_about(0x0010_0000_0000_0000);
@@ -42,6 +42,10 @@ fn edges() {
     put_about(0x4002_d97c_7f33_21d2);
     put_about(0x4009_21fb_5444_2d18);
     put_about(0x4060_0000_0000_0000);
+    put_about(0x4065_d218_013e_214b);
+    put_about(0x406f_cf02_16a6_4912);
+    put_about(0x406f_e824_11fa_8d3f);
+    put_about(0x4070_0000_0000_0000);
     put_about(0x4086_2000_0000_0000);
     put_about(0x40c3_8800_0000_0000);
     put_about(0x7fef_ffff_ffff_ffff);
@@ -82,8 +86,8 @@ fn part(s: u64) -> f64 {
 fn even(s: u64, t: u64) {
     let u = part(s);
     let v = part(t);
-    put(numbers::sin(256.0 * u - 128.0));
-    put(numbers::cos(256.0 * u - 128.0));
+    put(numbers::sin(512.0 * u - 256.0));
+    put(numbers::cos(512.0 * u - 256.0));
     put(numbers::sin(8.0 * v - 4.0));
     put(numbers::cos(8.0 * v - 4.0));
     put(numbers::tan(0.75 * u));

@@ -34,6 +34,9 @@ hundred = constant 0x42c8_0000 0x4059_0000_0000_0000
 abbrev pub half-turn : Format → Float
 half-turn = constant 0x4334_0000 0x4066_8000_0000_0000
 
+abbrev pub two-hundred : Format → Float
+two-hundred = constant 0x4348_0000 0x4069_0000_0000_0000
+
 abbrev pub thousand : Format → Float
 thousand = constant 0x447a_0000 0x408f_4000_0000_0000
 
@@ -97,6 +100,7 @@ rows =
     ∷ (ninety, 90, 1)
     ∷ (hundred, 100, 1)
     ∷ (half-turn, 180, 1)
+    ∷ (two-hundred, 200, 1)
     ∷ (thousand, 1000, 1)
     ∷ (ten-thousand, 10000, 1)
     ∷ (million, 1000000, 1)

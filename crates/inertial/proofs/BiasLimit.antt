@@ -5,13 +5,14 @@ use mathlib.Core.Bool.{Bool, true, false, not, _&&_, _||_, Bool·beq}
 use mathlib.Core.List.{List, [], _∷_}
 use Prim.Native.Nat.{ℕ}
 use lib.Dec.{T}
-use lib.Ieee.{Float, Format, binary32, binary64, le, ofBits}
+use lib.Ieee.{Float, Format, binary32, binary64, div, le, ofBits}
 use lib.Ieee.Scale.{finite}
-use Rattle.floats.specs.Notation.{pi}
+use Rattle.floats.specs.Notation.{two, pi}
 use Rattle.floats.specs.Decimals.{half-turn}
 use Rattle.floats.specs.Tests.{both, keeps}
+use Rattle.floats.specs.Order.{nought, Within, within-finite}
 use Rattle.floats.specs.Products.{finite-number}
-use Rattle.floats.specs.Intervals.{none, known, Expr, var, lit, mul·, div·, bound, is-finite}
+use Rattle.floats.specs.Intervals.{none, known, Expr, var, lit, mul·, div·, bound, inside, bounded}
 use Rattle.algebra.specs.declared.vector.Vector.{Vector}
 use Rattle.limits.specs.Limits.{threshold-taken, least-threshold, threshold-limit}
 use Rattle.limits.specs.BySize.{beyond, all-numbers}
@@ -30,10 +31,22 @@ use Rattle.inertial.proofs.RestHistory.{rest-from-history}
 abbrev radians· : Format → Expr
 radians· w = mul· (var 0) (div· (lit (pi w)) (lit (half-turn w)))
 
+abbrev pub quarter : Format → Float
+quarter w = div w (pi w) (two w)
+
+-- from 0 to a quarter turn a second
+pub limit-within : (w : Format) (clip : Float) → T (threshold-taken w clip) → Within (radians w clip) nought (quarter w)
+unfolding bound inside div le ofBits
+limit-within binary32 clip t = let h = simp both at t in bounded binary32 (known clip (least-threshold binary32) (threshold-limit binary32) h none) (radians· binary32) nought (quarter binary32) tt
+limit-within binary64 clip t = let h = simp both at t in bounded binary64 (known clip (least-threshold binary64) (threshold-limit binary64) h none) (radians· binary64) nought (quarter binary64) tt
+
+quarter-finite : (w : Format) → T (finite (quarter w))
+unfolding div ofBits
+quarter-finite binary32 = tt
+quarter-finite binary64 = tt
+
 pub limit-finite : (w : Format) (clip : Float) → T (threshold-taken w clip) → T (finite (radians w clip))
-unfolding bound le ofBits
-limit-finite binary32 clip t = let h = simp both at t in is-finite binary32 (known clip (least-threshold binary32) (threshold-limit binary32) h none) (radians· binary32) tt
-limit-finite binary64 clip t = let h = simp both at t in is-finite binary64 (known clip (least-threshold binary64) (threshold-limit binary64) h none) (radians· binary64) tt
+limit-finite w clip t = within-finite (radians w clip) nought (quarter w) tt (quarter-finite w) (limit-within w clip t)
 
 -- the clip is one that a construction takes
 abbrev pub ClipTaken : Inertial → Type 0

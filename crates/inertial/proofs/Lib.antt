@@ -4,4 +4,7 @@ pub mod RestHistory
 pub mod Tested
 pub mod BiasLimit
 pub mod FiniteCalls
+pub mod BiasHeld
+pub mod Sound
+pub mod Turns
 pub mod Answers

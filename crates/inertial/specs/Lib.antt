@@ -12,3 +12,4 @@ pub mod Calls
 pub mod RestHistory
 pub mod Answers
 pub mod BiasLimit
+pub mod Turns

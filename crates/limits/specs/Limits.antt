@@ -5,12 +5,12 @@ use mathlib.Core.List.{List, [], _∷_, map}
 use Prim.Native.Nat.{ℕ}
 use lib.Ieee.{Float, Format, binary32, binary64, neg, le, eq, round, ofBits}
 use Rattle.floats.specs.Notation.{zero, one}
-use Rattle.floats.specs.Decimals.{decimal, ten, ninety, hundred, half-turn, thousand, ten-thousand, million, two-million, one-point-six, tenth, ten-thousandth}
+use Rattle.floats.specs.Decimals.{decimal, ten, ninety, hundred, half-turn, two-hundred, thousand, ten-thousand, million, two-million, one-point-six, tenth, ten-thousandth}
 use Rattle.algebra.specs.declared.vector.Vector.{Vector}
 
 -- ---- the limits
 abbrev pub gyr-limit : Format → Float
-gyr-limit = hundred
+gyr-limit = two-hundred
 
 abbrev pub acc-limit : Format → Float
 acc-limit = thousand
@@ -154,7 +154,7 @@ limits =
 
 abbrev decimals : List (ℕ × ℕ)
 decimals =
-    (100, 1)
+    (200, 1)
     ∷ (1000, 1)
     ∷ (1000000, 1)
     ∷ (1, 10000)

@@ -4,7 +4,7 @@ ghost use lib.Ieee.{binary64};
 ghost use Rattle.limits.specs.Limits.{within, all-within, gyr-taken, acc-taken, mag-taken, interval-taken, zero-sample};
 use algebra::Vector;
 
-const GYR_LIMIT: f64 = 100.0;
+const GYR_LIMIT: f64 = 200.0;
 
 const ACC_LIMIT: f64 = 1000.0;
 

@@ -13,10 +13,10 @@ use lib.Ieee.Digits.{back}
 use lib.Ieee.Fits.{and-l, and-r, up-pos, down-pos}
 use lib.Ieee.Exact.{HasValue}
 use lib.Ieee.Order.{le-of-values}
-use lib.Ieee.Positive.{positive, values-of-le}
+use lib.Ieee.Positive.{positive, positive-finite, values-of-le}
 use lib.Ieee.Scale.{finite}
 use Rattle.floats.specs.Fractions.{le→ord}
-use Rattle.floats.specs.Order.{nought, le-tr, Within}
+use Rattle.floats.specs.Order.{nought, le-tr, Within, within-finite}
 use Rattle.floats.specs.Rounding.{zeros}
 use Rattle.numbers.specs.Root.{count, square, Value, Nearest, root}
 use Rattle.numbers.proofs.RootLaws.{root-nearest, square-count, square-lt}
@@ -92,6 +92,12 @@ unfolding fits count
 limit-beyond binary32 = (tt, lit≤ tt)
 limit-beyond binary64 = (tt, lit≤ tt)
 
+not-negative : (m : ℕ) (e : ℤ) → T (le nought (fin true (suc m) e)) → ⊥
+not-negative m e h =
+    let a = le→ord nought (fin true (suc m) e) tt tt h in
+    let k : 0 < suc m * up e = mul-pos (zero-lt-suc m) (up-pos e) in
+    omega arith
+
 pub root-within : (f : Format) (x : Float) → T (fits f x) → T (finite x) → T (le nought x) → Within (root f x) nought (root-limit f)
 root-within f nan u p h = absurd p
 root-within f (inf s) u p h = absurd p
@@ -99,11 +105,7 @@ root-within f (fin s zero e) u p h =
     let x = fin s zero e in
     let z = zero-mul (up e) in
     unfold root in (zeros nought x (tt, refl) (tt, z), le-tr x nought (root-limit f) (zeros x nought (tt, z) (tt, refl)) (from-nought f (root-limit f) (limit-beyond f .0)))
-root-within f (fin true (suc m) e) u p h =
-    let a = le→ord nought (fin true (suc m) e) tt tt h in
-    let k : 0 < suc m * up e = mul-pos (zero-lt-suc m) (up-pos e) in
-    let z : ⊥ = omega arith in
-    absurd z
+root-within f (fin true (suc m) e) u p h = absurd (not-negative m e h)
 root-within f (fin false (suc m) e) u p h =
     let c = root-limit f in
     let b = limit-beyond f in
@@ -119,3 +121,14 @@ root-within f (fin false (suc m) e) u p h =
         let d : 2 * c ≤ c + r = omega arith in
         let e : 2 * c * (2 * c) ≤ (c + r) * (c + r) = mul-le-mul d d in
         omega arith
+
+-- ---- from zero on it grows too
+pub root-up-to : (f : Format) (x y : Float) → T (fits f x) → T (fits f y) → T (positive y) → Within x nought y → Within (root f x) nought (root f y)
+root-up-to f x y u v q h = let p = within-finite x nought y tt (positive-finite y q) h in (root-within f x u p (h .0) .0, up-to x u p h)
+  where
+    up-to : (x : Float) → T (fits f x) → T (finite x) → Within x nought y → T (le (root f x) (root f y))
+    up-to nan u p h = absurd p
+    up-to (inf s) u p h = absurd p
+    up-to (fin s zero e) u p h = unfold root in le-tr (fin s zero e) nought (root f y) (zeros (fin s zero e) nought (tt, zero-mul (up e)) (tt, refl)) (root-within f y v (positive-finite y q) (le-tr nought (fin s zero e) y (h .0) (h .1)) .0)
+    up-to (fin true (suc m) e) u p h = absurd (not-negative m e (h .0))
+    up-to (fin false (suc m) e) u p h = root-grows f (fin false (suc m) e) y u v (lt→ltb 0 (suc m) (zero-lt-suc m)) q (h .1)

@@ -16,9 +16,9 @@ HALF = half binary64
 abbrev pub between : Float → Float → Float → Bool
 between x lo hi = le lo x && le x hi
 
--- ---- the domains: sine and cosine from -ANGLE-LIMIT to ANGLE-LIMIT, 128; the tangent from 0 to TAN-LIMIT, 0.75; the exponential from -EXP-LIMIT, 10000, to 0
+-- ---- the domains: sine and cosine from -ANGLE-LIMIT to ANGLE-LIMIT, 256; the tangent from 0 to TAN-LIMIT, 0.75; the exponential from -EXP-LIMIT, 10000, to 0
 abbrev pub ANGLE-LIMIT : Float
-ANGLE-LIMIT = ofBits binary64 0x4060_0000_0000_0000
+ANGLE-LIMIT = ofBits binary64 0x4070_0000_0000_0000
 
 abbrev pub TAN-LIMIT : Float
 TAN-LIMIT = ofBits binary64 0x3fe8_0000_0000_0000

@@ -4,7 +4,7 @@ ghost use lib.Ieee.{binary64};
 ghost use Rattle.numbers.specs.Sines.{ksin, kcos, reduce, sine-of, cosine-of, sin, cos, tan};
 
 // Sine and cosine are given from -ANGLE_LIMIT to ANGLE_LIMIT, the tangent from 0 to TAN_LIMIT.
-const ANGLE_LIMIT: f64 = 128.0;
+const ANGLE_LIMIT: f64 = 256.0;
 
 const TAN_LIMIT: f64 = 0.75;
 

@@ -1,7 +1,5 @@
--- An answer is a number that the filter stores, or follows from what every filter that was reached holds: see Sound.antt.
+-- An answer is a number that the filter stores, or follows from what every filter that was reached holds: see Sound.antt of `inertial`.
 -- The roots are of finite radicands, the sigma's no larger than `bias_p0`; they are divided by thresholds, and the quaternions multiplied are small.
-use mathlib.Core.Path.{sym, subst}
-use mathlib.Core.List.{List}
 use lib.Dec.{T}
 use lib.Ieee.{Float, binary64, ofBits, mul, div, le, fits}
 use lib.Ieee.Fits.{add-fits}
@@ -9,7 +7,7 @@ use lib.Ieee.Scale.{finite}
 use Rattle.floats.specs.Notation.{pi}
 use Rattle.floats.specs.Decimals.{hundred, half-turn}
 use Rattle.floats.specs.Definitions.{magnitude, larger, smaller}
-use Rattle.floats.specs.Tests.{both, keeps}
+use Rattle.floats.specs.Tests.{both}
 use Rattle.floats.specs.Order.{nought, le→number, Within, within-finite}
 use Rattle.floats.specs.Products.{finite-number}
 use Rattle.floats.specs.Intervals.{none, known, var, lit, mul·, div·, bound, is-finite}
@@ -21,7 +19,6 @@ use Rattle.algebra.specs.Quaternions as quaternions
 use Rattle.algebra.specs.Matrices as matrices
 use Rattle.algebra.specs.declared.vector.Vector.{Vector}
 use Rattle.algebra.proofs.Normalized.{times-finite}
-use Rattle.limits.specs.Answers.{Told}
 use Rattle.limits.specs.Limits.{least-threshold, threshold-limit}
 use Rattle.inertial.specs.AllFinite as inertial-finite
 use Rattle.inertial.specs.Acc.{finite-acc-rest}
@@ -29,41 +26,16 @@ use Rattle.inertial.specs.Gyr.{finite-gyr-rest, radians}
 use Rattle.inertial.specs.Kalman.{finite-bias}
 use Rattle.inertial.specs.Setters as inertial
 use Rattle.inertial.specs.declared.types.Inertial.{Inertial}
+use Rattle.inertial.proofs.Sound.{Radicand, Threshold, Sound, reached-sound}
 use Rattle.magnetic.specs.AllFinite as magnetic-finite
 use Rattle.magnetic.specs.Fields.{finite-field}
 use Rattle.magnetic.specs.Headings.{finite-heading}
 use Rattle.magnetic.specs.declared.types.Magnetic.{Magnetic}
 use Rattle.vqf.specs.AllFinite.{all-finite}
 use Rattle.vqf.specs.AnswersFinite.{AnswersFinite, AnswersStayFinite}
-use Rattle.vqf.specs.Build.{house, taken, built, fresh, new, interval-or, settings-or-house}
-use Rattle.vqf.specs.Calls.{Call, inertial-calls, run}
-use Rattle.vqf.specs.Construction.{all-taken}
-use Rattle.vqf.specs.declared.types.Interval.{Interval}
-use Rattle.vqf.specs.declared.types.Params.{Params}
-use Rattle.vqf.specs.declared.types.Settings.{Settings}
 use Rattle.vqf.specs.declared.types.VQF.{VQF}
-use Rattle.vqf.proofs.Construction.{house-within}
-use Rattle.vqf.proofs.InertialRun.{inertial-run}
-use Rattle.vqf.proofs.Sound.{Radicand, Threshold, Sound, new-sound, run-sound}
+use Rattle.vqf.proofs.Reached.{reached}
 use Rattle.vqf.proofs.StaysFinite.{stays-finite}
-
--- ---- every filter that is reached is sound
-abbrev Kept : VQF → Type 0
-Kept f = Sound (f .inertial)
-
-built-sound : (p : Params) (gyr-ts acc-ts mag-ts : Float) → T (taken binary64 p gyr-ts acc-ts mag-ts) → Kept (built binary64 p gyr-ts acc-ts mag-ts)
-unfolding taken built
-built-sound p gyr-ts acc-ts mag-ts t = new-sound (p .inertial) gyr-ts acc-ts ((simp both at t) .0)
-
-leaves-sound : (gyr-ts : Float) (acc-ts mag-ts : Interval) (given : Settings) → Kept (new binary64 gyr-ts acc-ts mag-ts given .left)
-unfolding new fresh
-leaves-sound gyr-ts acc-ts mag-ts given =
-    keeps (λ (t : Told VQF). Kept (t .left)) (all-taken binary64 gyr-ts acc-ts mag-ts given) _ _
-    (built-sound (settings-or-house binary64 given) gyr-ts (interval-or acc-ts gyr-ts) (interval-or mag-ts gyr-ts))
-    (built-sound (house binary64) _ _ _ (house-within binary64))
-
-reached-sound : (f : VQF) (calls : List Call) → Kept f → Kept (run binary64 f calls)
-reached-sound f calls h = subst Sound (sym (inertial-run binary64 f calls .half)) (run-sound (f .inertial) (inertial-calls calls) h)
 
 -- ---- the roots
 abbrev root-of : Float → Float
@@ -171,4 +143,4 @@ answers f h k =
     }
 
 pub answers-finite : AnswersStayFinite
-answers-finite gyr-ts acc-ts mag-ts given calls = answers _ (stays-finite gyr-ts acc-ts mag-ts given calls) (reached-sound _ calls (leaves-sound gyr-ts acc-ts mag-ts given))
+answers-finite gyr-ts acc-ts mag-ts given calls = answers _ (stays-finite gyr-ts acc-ts mag-ts given calls) (reached binary64 Sound reached-sound gyr-ts acc-ts mag-ts given calls)

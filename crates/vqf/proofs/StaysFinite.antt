@@ -1,6 +1,5 @@
 -- A filter that was built holds finite numbers, and each call keeps them so: the half that it is made on by the lemmas of that half, the other half as it was.
 -- A bias is held to the clip, which is finite in radians because a construction took it and no call changes it.
-use mathlib.Core.Path.{sym, subst, ap, _∙_}
 use mathlib.Core.Bool.{Bool, Bool·beq}
 use mathlib.Core.List.{List, [], _∷_}
 use lib.Dec.{T}
@@ -9,10 +8,9 @@ use lib.Ieee.Fits.{and-i}
 use Rattle.floats.specs.Tests.{both, keeps}
 use Rattle.algebra.specs.declared.vector.Vector.{Vector}
 use Rattle.limits.specs.Answers.{Told, told}
-use Rattle.limits.specs.Limits.{threshold-taken}
 use Rattle.inertial.specs.AllFinite as inertial
-use Rattle.inertial.specs.Setup as setup
-use Rattle.inertial.proofs.BiasLimit.{ClipTaken, bias-limit}
+use Rattle.inertial.proofs.BiasLimit.{ClipTaken}
+use Rattle.inertial.proofs.BiasHeld.{reached-held}
 use Rattle.inertial.proofs.FiniteCalls as of-inertial
 use Rattle.magnetic.specs.AllFinite as magnetic
 use Rattle.magnetic.specs.Fields.{finite-field}
@@ -20,21 +18,19 @@ use Rattle.inertial.specs.declared.types.Inertial.{Inertial}
 use Rattle.magnetic.proofs.FiniteCalls as of-magnetic
 use Rattle.magnetic.specs.declared.types.Magnetic.{Magnetic}
 use Rattle.vqf.specs.AllFinite.{all-finite}
-use Rattle.vqf.specs.Build.{house, interval-or, settings-or-house, taken, built, fresh, new}
-use Rattle.vqf.specs.Construction.{all-taken}
+use Rattle.vqf.specs.Build.{new}
 use Rattle.vqf.specs.Whole.{halves, inertially, magnetically}
 use Rattle.vqf.specs.Update as updates
 use Rattle.vqf.specs.Setters as setters
-use Rattle.vqf.specs.Calls.{Call, update-gyr, update-acc, update-mag, update-gyr-with-ts, update, set-tau-acc, set-tau-mag, set-motion-bias-est-enabled, set-rest-bias-est-enabled, set-mag-dist-rejection-enabled, set-rest-detection-thresholds, set-mag-ref, set-bias-estimate, reset-state, inertial-calls, reply, run}
+use Rattle.vqf.specs.Calls.{Call, update-gyr, update-acc, update-mag, update-gyr-with-ts, update, set-tau-acc, set-tau-mag, set-motion-bias-est-enabled, set-rest-bias-est-enabled, set-mag-dist-rejection-enabled, set-rest-detection-thresholds, set-mag-ref, set-bias-estimate, reset-state, reply, run}
 use Rattle.vqf.specs.StaysFinite.{StaysFinite}
 use Rattle.vqf.specs.declared.types.VQF.{VQF}
-use Rattle.vqf.specs.declared.types.Params.{Params}
 use Rattle.vqf.specs.declared.types.Interval.{Interval}
 use Rattle.vqf.specs.declared.types.Settings.{Settings}
 use Rattle.vqf.specs.declared.types.Sample.{Sample}
 use Rattle.vqf.specs.declared.types.Sample.the-variants.{Absent, Given}
-use Rattle.vqf.proofs.Construction.{house-within, construction}
-use Rattle.vqf.proofs.InertialRun.{inertial-run}
+use Rattle.vqf.proofs.Construction.{construction}
+use Rattle.vqf.proofs.Reached.{reached}
 
 abbrev Finite : VQF → Type 0
 Finite f = T (all-finite f)
@@ -43,21 +39,8 @@ Finite f = T (all-finite f)
 abbrev Clipped : VQF → Type 0
 Clipped f = (calls : List Call) → ClipTaken (run binary64 f calls .inertial)
 
-built-clipped : (p : Params) (gyr-ts acc-ts mag-ts : Float) → T (taken binary64 p gyr-ts acc-ts mag-ts) → Clipped (built binary64 p gyr-ts acc-ts mag-ts)
-unfolding taken setup.taken setup.rest-params-taken built
-built-clipped p gyr-ts acc-ts mag-ts t calls =
-    let f = built binary64 p gyr-ts acc-ts mag-ts in
-    let c : T (threshold-taken binary64 (p .inertial .rest .«bias_clip»)) = simp both ((simp both at t) .0 .0 .1 .0 .0 .0 .0) in
-    subst (λ (x : Float). T (threshold-taken binary64 x))
-    (sym (ap (λ (i : Inertial). i .params .rest .«bias_clip») (inertial-run binary64 f calls .half) ∙ bias-limit binary64 .kept (p .inertial) gyr-ts acc-ts (inertial-calls calls)))
-    c
-
 leaves-clipped : (gyr-ts : Float) (acc-ts mag-ts : Interval) (given : Settings) → Clipped (new binary64 gyr-ts acc-ts mag-ts given .left)
-unfolding new fresh
-leaves-clipped gyr-ts acc-ts mag-ts given =
-    keeps (λ (t : Told VQF). Clipped (t .left)) (all-taken binary64 gyr-ts acc-ts mag-ts given) _ _
-    (built-clipped (settings-or-house binary64 given) gyr-ts (interval-or acc-ts gyr-ts) (interval-or mag-ts gyr-ts))
-    (built-clipped (house binary64) _ _ _ (house-within binary64))
+leaves-clipped = reached binary64 ClipTaken (λ p gyr-ts acc-ts calls t. reached-held binary64 p gyr-ts acc-ts calls t .0)
 
 -- ---- the calls
 inertial-half : (f : VQF) → Finite f → T (inertial.all-finite (f .inertial))

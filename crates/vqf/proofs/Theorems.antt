@@ -1,6 +1,7 @@
 -- Each theorem by its own proof.
 use Rattle.numbers.proofs.RootLaws.{root-meets, root-only}
 use Rattle.numbers.proofs.Ranges.{ranges}
+use Rattle.numbers.proofs.HalfAngles.{half-angles}
 use Rattle.algebra.proofs.Inverses.{inverses}
 use Rattle.filters.proofs.Bounds.{bounds}
 use Rattle.filters.proofs.InStep.{stay-in-step}
@@ -13,6 +14,7 @@ use Rattle.vqf.proofs.Refused.{refused}
 use Rattle.vqf.proofs.Construction.{construction}
 use Rattle.vqf.proofs.StaysFinite.{stays-finite}
 use Rattle.vqf.proofs.AnswersFinite.{answers-finite}
+use Rattle.vqf.proofs.Turns.{turns}
 use Rattle.vqf.proofs.Apart.{apart}
 use Rattle.vqf.proofs.RestHistory.{rest-from-history}
 use Rattle.vqf.proofs.Worked.{worked}
@@ -24,6 +26,7 @@ theorems = record {
   construction = construction;
   stays-finite = stays-finite;
   answers-finite = answers-finite;
+  turns = turns;
   by-size = by-size;
   bias-limit = bias-limit;
   apart = apart;
@@ -32,6 +35,7 @@ theorems = record {
   root-meets = root-meets;
   root-only = root-only;
   ranges = ranges;
+  half-angles = half-angles;
   inverses = inverses;
   bounds = bounds;
   stay-in-step = stay-in-step;

@@ -1,10 +1,11 @@
 -- The worked values, computed from the definitions.
-use mathlib.Core.Path.{_≡_, refl}
+use mathlib.Core.Path.{_≡_, refl, _∙_}
 use Prim.Native.Nat.{_^_}
-use lib.Ieee.{binary64, add, sub, mul, div, neg, lt, eq, le, ofInt, round, ofBits, toBits}
+use lib.Ieee.{Float, binary64, add, sub, mul, div, neg, lt, eq, le, ofInt, round, ofBits, toBits}
 use Rattle.floats.specs.Decimals.{decimal}
 use Rattle.floats.specs.Definitions.{magnitude, clamp, larger}
 use Rattle.numbers.specs.Root.{root}
+use Rattle.numbers.specs.HalfAngles.{largest}
 use Rattle.numbers.specs.Arcs.{kasin, near-one, arccosine}
 use Rattle.numbers.specs.Sines.{ksin, kcos, reduce, sine-of, cosine-of, sine, cosine, tan}
 use Rattle.algebra.specs.Values as algebra
@@ -26,7 +27,7 @@ use Rattle.vqf.specs.Build.{house, built, fresh}
 use Rattle.vqf.specs.Update.{update-gyr, update-gyr-with-ts, update-acc}
 use Rattle.vqf.specs.Setters.{set-tau-acc, set-bias-estimate}
 use Rattle.vqf.specs.Asked.{quat-6d}
-use Rattle.vqf.specs.Worked.{scaled, filled, house-at, level, BiasValues, Worked}
+use Rattle.vqf.specs.Worked.{scaled, filled, house-at, level, thrice, most-biased, BiasValues, Worked}
 
 tau-below : set-tau-acc binary64 (fresh binary64) (decimal binary64 9 1000) .number ≡ 4
 unfolding set-tau-acc setters.set-tau-acc fresh built house inertial.new inertial.setup inertial.house le round ofBits
@@ -48,9 +49,23 @@ biases = record {
   sigma-above = refl;
 }
 
-gyr-taken : update-gyr binary64 (fresh binary64) (vectors.vector (algebra.whole 100) (algebra.whole 0) (algebra.whole 0)) .number ≡ 0
-unfolding update-gyr gyr.update-gyr-with-ts gyr.gyr-step gyr.gyr-rest gyr.gyr-filtered gyr.gyr-stirred gyr.squared-deviation gyr.broken gyr.finite-gyr-rest gyr.predicted gyr.turned vectors.norm vectors.finite quaternions.times quaternions.normalize quaternions.norm quaternions.finite filter-vec3 outputs channels filter-channel average finite-channels finite-channel fresh built house inertial.new inertial.setup inertial.house inertial.fresh-state inertial.fresh-rest all-within magnitude root sine cosine sine-of cosine-of reduce ksin kcos clamp add sub mul div neg lt eq le ofInt round ofBits
-gyr-taken = refl
+gyr-calls :
+    (update-gyr binary64 (fresh binary64) (vectors.vector (algebra.whole 200) (algebra.whole 0) (algebra.whole 0)) .number ≡ 0)
+    × (update-gyr-with-ts binary64 most-biased (thrice (algebra.whole 200)) (algebra.whole 1) .number ≡ 0)
+unfolding update-gyr update-gyr-with-ts set-bias-estimate setters.set-bias-estimate setters.sigma-or-none-taken setters.with-estimate gyr.update-gyr-with-ts gyr.gyr-step gyr.gyr-rest gyr.gyr-filtered gyr.gyr-stirred gyr.squared-deviation gyr.broken gyr.finite-gyr-rest gyr.predicted gyr.turned vectors.norm vectors.finite quaternions.times quaternions.normalize quaternions.norm quaternions.finite filter-vec3 outputs channels filter-channel average finite-channels finite-channel fresh built house inertial.new inertial.setup inertial.house inertial.fresh-state inertial.fresh-rest all-within magnitude root sine cosine sine-of cosine-of reduce ksin kcos clamp add sub mul div neg lt eq le ofInt round ofBits
+gyr-calls = (refl, refl)
+
+half-angle : largest binary64 ≡ decimal binary64 1745654302800634 (10 ^ 13)
+half-angle = computed ∙ nearest
+  where
+    bits : Float
+    bits = ofBits binary64 0x4065_d218_013e_214b
+
+    computed : largest binary64 ≡ bits
+    computed = unfold root add mul div ofBits in refl
+
+    nearest : bits ≡ decimal binary64 1745654302800634 (10 ^ 13)
+    nearest = unfold round ofBits in refl
 
 -- accelerometer calls, the whole step
 acc-calls :
@@ -77,9 +92,11 @@ worked = record {
   overflow-below = algebra.values .7;
   no-number = algebra.values .8;
   averaged = filters.values;
-  gyr-taken = gyr-taken;
+  gyr-taken = gyr-calls .0;
   gyr-above = refl;
   gyr-nan = refl;
+  gyr-fastest = gyr-calls .1;
+  largest-half-angle = half-angle;
   no-interval = refl;
   no-sample = refl;
   face-down = acc-calls .0;

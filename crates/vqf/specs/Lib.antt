@@ -12,5 +12,6 @@ pub mod Construction
 pub mod Worked
 pub mod StaysFinite
 pub mod AnswersFinite
+pub mod Turns
 pub mod Answers
 pub mod Theorems

@@ -2,6 +2,7 @@
 use lib.Ieee.{Format}
 use Rattle.numbers.specs.Root.{Meets, Only}
 use Rattle.numbers.specs.Ranges.{Ranges}
+use Rattle.numbers.specs.HalfAngles.{HalfAngles}
 use Rattle.algebra.specs.Inverses.{Inverses}
 use Rattle.filters.specs.Bounds.{Bounds}
 use Rattle.filters.specs.InStep.{StayInStep}
@@ -13,6 +14,7 @@ use Rattle.vqf.specs.Refused.{Refused}
 use Rattle.vqf.specs.Construction.{Construction}
 use Rattle.vqf.specs.StaysFinite.{StaysFinite}
 use Rattle.vqf.specs.AnswersFinite.{AnswersStayFinite}
+use Rattle.vqf.specs.Turns.{Turns}
 use Rattle.vqf.specs.Apart.{Apart}
 use Rattle.vqf.specs.RestHistory.{RestFromHistory}
 use Rattle.vqf.specs.Worked.{Worked}
@@ -29,6 +31,8 @@ pub record Theorems : Type 0 where
   pub stays-finite : StaysFinite
   -- and so is every number that it answers when asked, `quat_9d` apart
   pub answers-finite : AnswersStayFinite
+  -- a gyro sample that is taken turns within the domain of sine and cosine, and its turn is finite
+  pub turns : Turns
   -- what lies within ±limit is no NaN and not in size beyond it
   pub by-size : BySize
   -- a bias is taken exactly where the gyro step would not find it beyond the clip, and no call changes the clip
@@ -47,6 +51,8 @@ pub record Theorems : Type 0 where
   pub root-only : (w : Format) → Only w
   -- domains and ranges of sine, cosine, tangent, exponential and arc functions
   pub ranges : Ranges
+  -- the largest half angle of a gyro step, and that it lies within the domain of sine and cosine
+  pub half-angles : (w : Format) → HalfAngles w
   -- the inverse answers "too small" and "not finite" exactly by its determinant, and divides by any other
   pub inverses : (w : Format) → Inverses w
   -- coefficients of every accepted filter are finite, gains lie within 0 and 1

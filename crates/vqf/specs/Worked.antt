@@ -5,6 +5,7 @@ use Prim.Native.Nat.{ℕ, _+_, _^_}
 use lib.Ieee.{Float, nan, binary64, neg, ofBits, toBits}
 use Rattle.floats.specs.Decimals.{decimal, hundredth}
 use Rattle.numbers.specs.Root.{root}
+use Rattle.numbers.specs.HalfAngles.{largest}
 use Rattle.algebra.specs.Values.{whole, part}
 use Rattle.algebra.specs.Vectors.{vector}
 use Rattle.algebra.specs.Quaternions.{quaternion, rotate, times}
@@ -85,7 +86,7 @@ Refuses f x =
     × (set-bias-estimate binary64 f (vector (whole 0) x (whole 0)) Absent ≡ told 4 f)
     × (set-bias-estimate binary64 f (vector (whole 0) (whole 0) x) Absent ≡ told 4 f)
 
-abbrev thrice : Float → Vector
+abbrev pub thrice : Float → Vector
 thrice x = vector x x x
 
 -- 2, 90 and 0.0001 degrees a second in radians
@@ -97,6 +98,10 @@ quarter-turn = decimal binary64 15707963267948966 (10 ^ 16)
 
 abbrev least-clip : Float
 least-clip = decimal binary64 17453292519943296 (10 ^ 22)
+
+-- the house filter with `bias_clip` 90 and its bias at the lower end
+abbrev pub most-biased : VQF
+most-biased = set-bias-estimate binary64 (house-clipped (whole 90)) (thrice (neg quarter-turn)) Absent .left
 
 pub record BiasValues : Type 0 where
   -- "A component exactly on the clip is taken", in either sign; the next binary64 beyond and a NaN give 4
@@ -137,10 +142,13 @@ pub record Worked : Type 0 where
       × (first .channels ≡ averaging (whole 1) (whole 1) ∷ averaging (whole 1) (whole 2) ∷ averaging (whole 1) (whole 4) ∷ [])
       × (second .y ≡ vector (whole 2) (whole 3) (whole 6))
       × (second .channels ≡ filter-initial-state (whole 2) k ∷ filter-initial-state (whole 3) k ∷ filter-initial-state (whole 6) k ∷ [])
-  -- "gyro component 100 is taken; the next binary64 above, and NaN, give 2"
-  pub gyr-taken : update-gyr binary64 house (vector (whole 100) (whole 0) (whole 0)) .number ≡ 0
-  pub gyr-above : update-gyr binary64 house (vector (next-above (whole 100)) (whole 0) (whole 0)) .number ≡ 2
+  -- "now 200 is taken and the next value above gives 2"; and so does a NaN
+  pub gyr-taken : update-gyr binary64 house (vector (whole 200) (whole 0) (whole 0)) .number ≡ 0
+  pub gyr-above : update-gyr binary64 house (vector (next-above (whole 200)) (whole 0) (whole 0)) .number ≡ 2
   pub gyr-nan : update-gyr binary64 house (vector nan (whole 0) (whole 0)) .number ≡ 2
+  -- the fastest turn is taken, 200 in all three places for one second against a bias of a quarter turn a second; and half its angle, 174.5654302800634
+  pub gyr-fastest : update-gyr-with-ts binary64 most-biased (thrice (whole 200)) (whole 1) .number ≡ 0
+  pub largest-half-angle : largest binary64 ≡ decimal binary64 1745654302800634 (10 ^ 13)
   -- "gyro step with interval 0 gives 3"
   pub no-interval : update-gyr-with-ts binary64 house (vector (whole 1) (whole 2) (whole 3)) (whole 0) .number ≡ 3
   -- "accelerometer [0,-0,0] gives 1"

@@ -72,7 +72,7 @@ deviation-radicand x lp =
     (add-fits binary64 _ _, sum-unsigned binary64 _ _ (sum-unsigned binary64 _ _ (s _) (s _)) (s _))
 
 -- ---- a construction
-pub new-sound : (p : InertialParams) (gyr-ts acc-ts : Float) → T (taken binary64 p gyr-ts acc-ts) → Sound (new binary64 p gyr-ts acc-ts)
+new-sound : (p : InertialParams) (gyr-ts acc-ts : Float) → T (taken binary64 p gyr-ts acc-ts) → Sound (new binary64 p gyr-ts acc-ts)
 unfolding taken rest-params-taken new setup bias-coefficients fresh-state fresh-rest
 new-sound p gyr-ts acc-ts t =
     let r = (simp both at t) .0 .1 in
@@ -200,6 +200,9 @@ call-sound f (calls.set-rest-detection-thresholds g a) h = set-thresholds-sound 
 call-sound f (calls.set-bias-estimate v sigma) h = set-bias-sound f v sigma h
 call-sound f calls.reset-state h = reset-sound f h
 
-pub run-sound : (f : Inertial) (cs : List calls.Call) → Sound f → Sound (calls.run binary64 f cs)
+run-sound : (f : Inertial) (cs : List calls.Call) → Sound f → Sound (calls.run binary64 f cs)
 run-sound f [] h = h
 run-sound f (c ∷ cs) h = run-sound (calls.reply binary64 f c .left) cs (call-sound f c h)
+
+pub reached-sound : (p : InertialParams) (gyr-ts acc-ts : Float) (cs : List calls.Call) → T (taken binary64 p gyr-ts acc-ts) → Sound (calls.run binary64 (new binary64 p gyr-ts acc-ts) cs)
+reached-sound p gyr-ts acc-ts cs t = run-sound (new binary64 p gyr-ts acc-ts) cs (new-sound p gyr-ts acc-ts t)
