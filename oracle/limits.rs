@@ -1,4 +1,5 @@
-//! The settings by name, the house values, and what a call will take (document 01).
+//! The settings by name, the house values, and what a call will take (document 01, and document 02
+//! where it amends it).
 //! Ends are included, NaN is outside, and -0 counts as 0.
 
 use std::f64::consts::PI;

@@ -50,13 +50,13 @@ fn for_sin_cos(random: &mut Random) -> f64 {
 /// at some distance from one.
 pub fn far_angle(random: &mut Random) -> f64 {
     let multiple = (163 + random.below(163)) as f64 * (PI / 4.0);
-    let angle = match random.below(8) {
-        0 | 1 => f64::from_bits(multiple.to_bits() + random.below(401) - 200),
-        2 => {
+    let angle = match random.below(16) {
+        0 => f64::from_bits(multiple.to_bits() + random.below(401) - 200),
+        1 => {
             let distance = random.log_between(1e-14, 0.4);
             multiple + random.signed(distance)
         }
-        3 => near(random.pick(&[128.0, 256.0]), random),
+        2 => near(random.pick(&[128.0, 256.0]), random),
         _ => random.between(128.0, 256.0),
     };
     random.signed(angle.clamp(128.0, 256.0))
