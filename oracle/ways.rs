@@ -57,10 +57,10 @@ fn count(mut answers: impl Iterator<Item = String>) -> BTreeMap<Step, u64> {
         if answer.starts_with("bad ") {
             stop(&format!("line {number} of the scripts is no call"));
         }
-        let steps = play_line(&mut filter, &line).unwrap_or_default();
-        for (step, told) in steps.into_iter().zip(answer.split(' ').skip(1)) {
+        let mut told = answer.split(' ').skip(1);
+        for step in play_line(&mut filter, &line).unwrap_or_default() {
             let due = step.1 as u8;
-            if told != due.to_string() {
+            if told.next() != Some(&due.to_string()) {
                 let why = &step.2;
                 stop(&format!(
                     "line {number}: {due}, {why}. The oracle has: {answer}"
