@@ -113,7 +113,8 @@ fn check_reduction() -> bool {
             2 => multiple + random.between(-0.4, 0.4),
             _ => random.between(0.0, SIN_COS_LIMIT),
         };
-        rest(angle, quarter_turns(angle) * P1) != 0.0
+        let turns = quarter_turns(angle);
+        turns.fract() != 0.0 || rest(angle, turns * P1) != 0.0
     });
     let (products, differences) = (products.count(), differences.count());
     println!("k up to {most}: {products} rounded products; {differences} rounded differences over {ARGUMENTS} arguments");

@@ -2,6 +2,7 @@
 use Rattle.numbers.proofs.RootLaws.{root-meets, root-only}
 use Rattle.numbers.proofs.Ranges.{ranges}
 use Rattle.numbers.proofs.HalfAngles.{half-angles}
+use Rattle.numbers.proofs.Reduction.{reduction}
 use Rattle.algebra.proofs.Inverses.{inverses}
 use Rattle.filters.proofs.Bounds.{bounds}
 use Rattle.filters.proofs.InStep.{stay-in-step}
@@ -36,6 +37,7 @@ theorems = record {
   root-only = root-only;
   ranges = ranges;
   half-angles = half-angles;
+  reduction = reduction;
   inverses = inverses;
   bounds = bounds;
   stay-in-step = stay-in-step;

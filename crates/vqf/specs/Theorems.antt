@@ -3,6 +3,7 @@ use lib.Ieee.{Format}
 use Rattle.numbers.specs.Root.{Meets, Only}
 use Rattle.numbers.specs.Ranges.{Ranges}
 use Rattle.numbers.specs.HalfAngles.{HalfAngles}
+use Rattle.numbers.specs.Reduction.{Reduction}
 use Rattle.algebra.specs.Inverses.{Inverses}
 use Rattle.filters.specs.Bounds.{Bounds}
 use Rattle.filters.specs.InStep.{StayInStep}
@@ -53,6 +54,8 @@ pub record Theorems : Type 0 where
   pub ranges : Ranges
   -- the largest half angle of a gyro step, and that it lies within the domain of sine and cosine
   pub half-angles : (w : Format) → HalfAngles w
+  -- an angle of the domain loses at most 163 quarter turns, and their products with the first two parts of pi / 2 are not rounded
+  pub reduction : Reduction
   -- the inverse answers "too small" and "not finite" exactly by its determinant, and divides by any other
   pub inverses : (w : Format) → Inverses w
   -- coefficients of every accepted filter are finite, gains lie within 0 and 1
