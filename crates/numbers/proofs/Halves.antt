@@ -7,6 +7,7 @@ use native.Mathlib.Decide.{decLe}
 use borrow.Author.Tests.{lt-ltb, le-ltb}
 use lib.Dec.{ltb, lit<}
 use lib.Bits.{bitAnd, and-mask}
+use Rattle.numbers.specs.Root.{Closest}
 
 abbrev pub upper : ℕ → ℕ → ℕ → ℕ
 upper a b q = a * a + (2 * a * b + (b * b + q) / 67108864) / 67108864
@@ -48,3 +49,20 @@ high-square q h = mul-le-mul high high
   where
     high : q / 67108864 ≤ 134217728
     high = omega arith
+
+-- What `is_closest` sees: q * q is t * 2 ^ 26 and less than 2 ^ 26 more above a * a * 2 ^ 52, and w is d * 2 ^ 26.
+abbrev pub lower : ℕ → ℕ → ℕ
+lower a b = 2 * a * b + b * b / 67108864
+
+pub seen : (q c d : ℕ) → d + q / 67108864 * (q / 67108864) ≡ c
+    → lower (q / 67108864) (bitAnd q 67108863) < d * 67108864 + q / 67108864 → d * 67108864 ≤ lower (q / 67108864) (bitAnd q 67108863) + q / 67108864
+    → Closest (c * 2 ^ 52) q
+seen q c d e =
+    subst (λ (b : ℕ). lower a b < d * 67108864 + a → d * 67108864 ≤ lower a b + a → Closest (c * 2 ^ 52) q) (sym (and-mask q 26))
+    (subst (λ (z : ℕ). lower a (q % 67108864) < d * 67108864 + a → d * 67108864 ≤ lower a (q % 67108864) + a → Closest (c * 2 ^ 52) z) (div-add-mod' q 67108864) (parts a (q % 67108864) c d (mod-lt q (lit< tt)) e))
+  where
+    a : ℕ
+    a = q / 67108864
+
+    parts : (a b c d : ℕ) → b < 67108864 → d + a * a ≡ c → lower a b < d * 67108864 + a → d * 67108864 ≤ lower a b + a → Closest (c * 2 ^ 52) (a * 67108864 + b)
+    parts a b c d B e l h = (omega arith, omega arith)
