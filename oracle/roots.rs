@@ -27,7 +27,7 @@ mod port {
         let (a, b) = (q >> 26, q & 0x3ff_ffff);
         let d = c.wrapping_sub(a * a);
         let t = 2 * a * b + ((b * b) >> 26);
-        d < 0x2000_0000 && t < (d << 26) + a && (d << 26) <= t + a
+        d < 0x2000_0000 && (d << 26) <= t + a && t < (d << 26) + a
     }
 }
 
@@ -152,7 +152,10 @@ fn next(s: u64) -> u64 {
 
 fn main() {
     let count = std::env::args().nth(1).map_or(1000, |n| {
-        n.parse().expect("the argument is how many times to draw")
+        n.parse().unwrap_or_else(|_| {
+            eprintln!("roots_oracle: {n} is no whole number; it is how many times to draw");
+            std::process::exit(2)
+        })
     });
     let mut roots = Roots {
         out: std::io::BufWriter::new(std::io::stdout().lock()),

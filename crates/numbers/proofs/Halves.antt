@@ -1,12 +1,14 @@
 -- The part of q * q + q from 2 ^ 52 up, by halves of 26 bits, as `is_above` computes it.
 use mathlib.Core.Path.{_≡_, sym, ap, _∙_, subst}
+use mathlib.Core.Bool.{true, _&&_}
 use Prim.Native.Nat.{ℕ, _+_, _*_, _/_, _%_, _^_, _≤_, _<_}
 use native.Mathlib.Nat.{mul-le-mul, le-of-lt, lt-of-not-le, div-add-mod', mod-lt}
 use native.Mathlib.Omega.{arith}
 use native.Mathlib.Decide.{decLe}
 use borrow.Author.Tests.{lt-ltb, le-ltb}
-use lib.Dec.{ltb, lit<}
+use lib.Dec.{T, ltb, leb, ltb→lt, leb→le, lit<}
 use lib.Bits.{bitAnd, and-mask}
+use Rattle.floats.specs.Tests.{both}
 use Rattle.numbers.specs.Root.{Closest}
 
 abbrev pub upper : ℕ → ℕ → ℕ → ℕ
@@ -66,3 +68,9 @@ seen q c d e =
 
     parts : (a b c d : ℕ) → b < 67108864 → d + a * a ≡ c → lower a b < d * 67108864 + a → d * 67108864 ≤ lower a b + a → Closest (c * 2 ^ 52) (a * 67108864 + b)
     parts a b c d B e l h = (omega arith, omega arith)
+
+-- two tests in one
+pub joined : (a b c d : ℕ) → leb a b && ltb c d ≡ true → (a ≤ b) × (c < d)
+joined a b c d e =
+    let h = both (leb a b) (ltb c d) .0 (subst T (sym e) tt) in
+    (leb→le a b (h .0), ltb→lt c d (h .1))

@@ -3,12 +3,12 @@ use borrow.Author.Needs.{needs}
 use mathlib.Core.Path.{_≡_, sym, _∙_, subst}
 use Prim.Native.Nat.{ℕ, _+_, _*_, _/_, _^_, _≤_, _<_}
 use native.Mathlib.Omega.{arith}
-use lib.Dec.{T, ltb, leb, ltb→lt, leb→le}
+use lib.Dec.{T}
 use lib.Bits.{bitAnd, mask-lt}
 use lib.Ieee.{Float, binary64, fits, toBits}
-use lib.Ieee.Fits.{and-l, and-r}
 use Rattle.numbers.proofs.Beside.{Pattern, beside}
 use Rattle.numbers.proofs.Floats.{above-no-nan, parse, zero-root, no-root}
+use Rattle.numbers.proofs.Halves.{joined}
 use Rattle.numbers.proofs.Parsed.{Parsed, low, high, top}
 use Rattle.numbers.proofs.roots.sqrt.Statement.{statement}
 use Rattle.numbers.proofs.roots.sqrt.Tie as tie
@@ -26,8 +26,7 @@ parsed c = parse (c .before .args .x) (held (c .before)) (c .if1 .taken)
 near : (c : tie.Then2) → (4607182418665799680 ≤ toBits binary64 (c .before .before .args .x)) × (toBits binary64 (c .before .before .args .x) < 4607182418934235136)
 near c =
     let b = toBits binary64 (c .before .before .args .x) in
-    let h = subst T (sym (c .if2 .taken)) tt in
-    (leb→le 4607182418665799680 b (and-l (leb 4607182418665799680 b) (ltb b 4607182418934235136) h), ltb→lt b 4607182418934235136 (and-r (leb 4607182418665799680 b) (ltb b 4607182418934235136) h))
+    joined 4607182418665799680 b b 4607182418934235136 (c .if2 .taken)
 
 unit : (c : tie.Then2) → Pattern (c .before .before .args .x) ((toBits binary64 (c .before .before .args .x) + 4607182418800017408) / 2)
 unit c = beside (c .before .before .args .x) (parsed (c .before)) (near c .0) (near c .1)
