@@ -3,10 +3,11 @@
 //   rustc -O oracle/roots.rs -o target/roots_oracle && target/roots_oracle > crates/roots/stdout
 // An argument is how many times it draws in place of 1000. The error stream gets a table: of each
 // kind how many numbers were guessed by floats, where the guess is next to the root, where it is
-// farther, and where the test of whole numbers leaves it open.
+// farther, and where the test of whole numbers leaves it open. Its last line is how many steps
+// near_root took at the most.
 use std::io::Write;
 
-/// The guess and the test, as in crates/numbers/src/roots.rt.
+/// The guesses and the test, as in crates/numbers/src/roots.rt.
 mod port {
     pub fn by_floats(x: f64, bits: u64, unit: u64) -> f64 {
         let y = f64::from_bits(0x5fe4_0000_0000_0000 - (bits >> 1));
@@ -21,6 +22,13 @@ mod port {
         let h = (s + step) - step;
         let d = x - h * h;
         h + d * (1.75 * b - (b * b) * (h + 0.5 * s))
+    }
+
+    pub fn guess(c: u64) -> u64 {
+        let long = c >> 53;
+        let bits = (c >> long) + ((long + 1022) << 52);
+        let s = by_floats(f64::from_bits(bits), bits, 0x3ff0_0000_0000_0000);
+        s.to_bits() - 0x3fe0_0000_0000_0000
     }
 
     pub fn is_closest(q: u64, c: u64) -> bool {
@@ -45,6 +53,7 @@ struct Roots<W: Write> {
     out: W,
     kind: usize,
     counted: [[u64; 4]; KINDS.len()],
+    farthest: u64,
 }
 
 impl<W: Write> Roots<W> {
@@ -55,15 +64,29 @@ impl<W: Write> Roots<W> {
         let root = if nan { 0x7ff8_0000_0000_0000 } else { bits };
         writeln!(self.out, "{root:016x}").unwrap();
         let beside = (0x3fef_ffff_f800_0000..0x3ff0_0000_0800_0000).contains(&x);
-        if (1..2047).contains(&(x >> 52)) && !beside {
+        if (1..0x7ff0_0000_0000_0000).contains(&x) && !beside {
             self.count(x, root);
         }
     }
 
     fn count(&mut self, x: u64, root: u64) {
-        let field = x >> 52;
-        let low = ((field + 1021) >> 1) << 52;
-        let c = ((x & 0xf_ffff_ffff_ffff) | 0x10_0000_0000_0000) << ((field + 1) & 1);
+        let (mut m, mut e) = match x >> 52 {
+            0 => (x, 1074),
+            field => (x & 0xf_ffff_ffff_ffff | 0x10_0000_0000_0000, field + 1073),
+        };
+        while m < 0x10_0000_0000_0000 {
+            m *= 2;
+            e -= 1;
+        }
+        let c = m << (e & 1);
+        let low = ((e - 52) >> 1) << 52;
+        self.farthest = self.farthest.max(port::guess(c).abs_diff(root - low));
+        if x >> 52 > 0 {
+            self.count_guess(x, root, c, low);
+        }
+    }
+
+    fn count_guess(&mut self, x: u64, root: u64, c: u64, low: u64) {
         let guess = port::by_floats(f64::from_bits(x), x, low + 0x10_0000_0000_0000).to_bits();
         let q = guess.wrapping_sub(low);
         let open = q >= 0x20_0000_0000_0000 || !port::is_closest(q, c);
@@ -161,6 +184,7 @@ fn main() {
         out: std::io::BufWriter::new(std::io::stdout().lock()),
         kind: 0,
         counted: Default::default(),
+        farthest: 0,
     };
     roots.fixed();
     let mut s = 0x9e37_79b9_7f4a_7c15;
@@ -183,4 +207,5 @@ fn main() {
     for (kind, [guessed, next, farther, left]) in KINDS.iter().zip(roots.counted) {
         eprintln!("{kind:24}{guessed:10}{next:10}{farther:10}{left:10}");
     }
+    eprintln!("steps of near_root: at most {}", roots.farthest);
 }

@@ -1,4 +1,4 @@
--- The part of q * q + q from 2 ^ 52 up, by halves of 26 bits, as `is_above` computes it.
+-- Squares by halves of 26 bits, as `is_above` and `is_closest` compute them: the part of q * q + q from 2 ^ 52 up, and what is left of c * 2 ^ 52 over q * q.
 use mathlib.Core.Path.{_≡_, sym, ap, _∙_, subst}
 use mathlib.Core.Bool.{true, _&&_}
 use Prim.Native.Nat.{ℕ, _+_, _*_, _/_, _%_, _^_, _≤_, _<_}
@@ -69,7 +69,7 @@ seen q c d e =
     parts : (a b c d : ℕ) → b < 67108864 → d + a * a ≡ c → lower a b < d * 67108864 + a → d * 67108864 ≤ lower a b + a → Closest (c * 2 ^ 52) (a * 67108864 + b)
     parts a b c d B e l h = (omega arith, omega arith)
 
--- two tests in one
+-- two tests in one, as `is_closest` and `sqrt` have them
 pub joined : (a b c d : ℕ) → leb a b && ltb c d ≡ true → (a ≤ b) × (c < d)
 joined a b c d e =
     let h = both (leb a b) (ltb c d) .0 (subst T (sym e) tt) in
