@@ -3,8 +3,9 @@
 //   rustc -O oracle/roots.rs -o target/roots_oracle && target/roots_oracle > crates/roots/stdout
 // An argument is how many times it draws in place of 1000. The error stream gets a table: of each
 // kind how many numbers were guessed by floats, where the guess is next to the root, where it is
-// farther, and where the test of whole numbers leaves it open. Its last line is how many steps
-// near_root took at the most.
+// farther, where the test of whole numbers leaves it open, and how many of the roots lie within 2^-8
+// of a step from a middle. Below it are how many steps near_root took at the most, and the power of
+// two of a step at or below the least distance from a middle.
 use std::io::Write;
 
 /// The guesses and the test, as in crates/numbers/src/roots.rt.
@@ -52,8 +53,9 @@ const KINDS: [&str; 7] = [
 struct Roots<W: Write> {
     out: W,
     kind: usize,
-    counted: [[u64; 4]; KINDS.len()],
+    counted: [[u64; 5]; KINDS.len()],
     farthest: u64,
+    least: i32,
 }
 
 impl<W: Write> Roots<W> {
@@ -91,11 +93,14 @@ impl<W: Write> Roots<W> {
         let q = guess.wrapping_sub(low);
         let open = q >= 0x20_0000_0000_0000 || !port::is_closest(q, c);
         assert!(open || guess == root, "{:016x}", x);
-        let [guessed, next, farther, left] = &mut self.counted[self.kind];
+        let distance = from_middle(c, root - low);
+        self.least = self.least.min(distance.log2().floor() as i32);
+        let [guessed, next, farther, left, near] = &mut self.counted[self.kind];
         *guessed += 1;
         *next += (guess.abs_diff(root) == 1) as u64;
         *farther += (guess.abs_diff(root) > 1) as u64;
         *left += open as u64;
+        *near += (distance <= 1.0 / 256.0) as u64;
     }
 
     fn put_about(&mut self, x: u64) {
@@ -153,6 +158,15 @@ impl<W: Write> Roots<W> {
     }
 }
 
+/// How far the root of c * 2^52 is from the nearest middle, where q is the whole number next to it:
+/// the difference of the squares of their doubles, which is exact, by that of their slopes.
+fn from_middle(c: u64, q: u64) -> f64 {
+    let (square, double) = ((c as u128) << 54, 2 * q as u128);
+    let above = square.abs_diff((double + 1) * (double + 1));
+    let below = square.abs_diff((double - 1) * (double - 1));
+    above.min(below) as f64 / (8.0 * q as f64)
+}
+
 /// A q below 2^52 with q * q + q equal to t modulo 2^52, for an even t.
 fn middle(t: u64) -> u64 {
     let mut q = 0u64;
@@ -185,6 +199,7 @@ fn main() {
         kind: 0,
         counted: Default::default(),
         farthest: 0,
+        least: 0,
     };
     roots.fixed();
     let mut s = 0x9e37_79b9_7f4a_7c15;
@@ -201,11 +216,12 @@ fn main() {
         roots.close(s, t);
     }
     eprintln!(
-        "{:24}{:>10}{:>10}{:>10}{:>10}",
-        "", "guessed", "next", "farther", "left open"
+        "{:24}{:>10}{:>10}{:>10}{:>10}{:>10}",
+        "", "guessed", "next", "farther", "left open", "middle"
     );
-    for (kind, [guessed, next, farther, left]) in KINDS.iter().zip(roots.counted) {
-        eprintln!("{kind:24}{guessed:10}{next:10}{farther:10}{left:10}");
+    for (kind, [guessed, next, farther, left, near]) in KINDS.iter().zip(roots.counted) {
+        eprintln!("{kind:24}{guessed:10}{next:10}{farther:10}{left:10}{near:10}");
     }
     eprintln!("steps of near_root: at most {}", roots.farthest);
+    eprintln!("nearest to a middle: 2^{} of a step", roots.least);
 }

@@ -84,8 +84,9 @@ fn middle(t: u64) -> u64 {
     q
 }
 
-// A root from 1 up to 2 that lies below the middle between two floats by t * 2^-53 of their
-// distance, or half that; above it where t stands for a negative number.
+// About the square of a middle between two floats from 1 up to 2. A square below 2, and every other
+// one above, has a root that lies below the middle by t * 2^-53 of a step, or half that; above it
+// where t stands for a negative number.
 fn put_hard(t: u64) {
     put_middle(
         floats::from_bits(middle(t) | 0x3ff0_0000_0000_0000),
@@ -93,8 +94,8 @@ fn put_hard(t: u64) {
     );
 }
 
-// Squares of any float from 2^-511 up to 2^513; roots at 2^-7 to 2^-53 of a step from a middle; and
-// a number within 2^28 steps of 1.
+// Squares of any float from 2^-511 up to 2^513; about roots that mostly lie next to a middle; and a
+// number within 2^28 steps of 1.
 fn put_close(s: u64, t: u64) {
     put_squares((s >> 12) | (((t >> 54) + 512) << 52));
     let off = (s >> ((t >> 59) + 20)) << 1;
