@@ -1,6 +1,7 @@
-//! patch SOURCE own|port amended|unamended|told OUT: the source, made ready for the driver, with its
-//! own math or the port's, and with the lines that the rules amend or as they are; with `told` its
-//! own test of a determinant, which is told. Each patch must match exactly once, or nothing is written.
+//! patch SOURCE own|port amended|unamended|told|gain OUT: the source, made ready for the driver, with
+//! its own math or the port's, and with the lines that the rules amend or as they are; with `told` its
+//! own test of a determinant, which is told, and with `gain` the lines amended and the gain of a heading
+//! correction told. Each patch must match exactly once, or nothing is written.
 
 use std::env;
 use std::fs;
@@ -32,6 +33,17 @@ std::thread_local! {
 }
 ";
 
+/// The gain that a heading correction uses, kept for whoever asks.
+const TOLD_GAIN: Patch = (
+    "self.state.delta += k * self.state.last_mag_dis_angle;",
+    "GAIN.set(Some(k));\n        self.state.delta += k * self.state.last_mag_dis_angle;",
+);
+const GAIN: &str = "
+std::thread_local! {
+    pub static GAIN: std::cell::Cell<Option<f64>> = const { std::cell::Cell::new(None) };
+}
+";
+
 const MATH_OPENS: &str = "#[cfg(any(feature = \"std\", feature = \"micromath\"))]\nmod math {\n";
 const PUBLIC_MATH: Patch = (
     MATH_OPENS,
@@ -44,7 +56,7 @@ const PORT_MATH: &str = "#[path = \"../../oracle/port_math.rs\"]\npub mod math;\
 fn main() {
     let arguments: Vec<String> = env::args().skip(1).collect();
     let [source, math, lines, out] = arguments.as_slice() else {
-        stop("usage: patch SOURCE own|port amended|unamended|told OUT");
+        stop("usage: patch SOURCE own|port amended|unamended|told|gain OUT");
     };
     let text = fs::read_to_string(source)
         .unwrap_or_else(|error| stop(&format!("cannot read the source {source}: {error}")));
@@ -58,7 +70,8 @@ fn main() {
         "amended" => (&[HALF_TURN, NO_INVERSE], ""),
         "unamended" => (&[], ""),
         "told" => (&[HALF_TURN, TOLD_INVERSE], DETERMINANT),
-        _ => stop("the third argument is amended, unamended or told"),
+        "gain" => (&[HALF_TURN, NO_INVERSE, TOLD_GAIN], GAIN),
+        _ => stop("the third argument is amended, unamended, told or gain"),
     };
     let text = lines
         .iter()

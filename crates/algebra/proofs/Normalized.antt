@@ -1,5 +1,5 @@
 -- A normalised quaternion that came out finite has no large component, whatever went in: a large one makes the norm as large.
--- The bound is crude; it keeps the product of two such quaternions finite.
+-- The bound is crude; it keeps the product of two such quaternions finite, also where a heading turns it.
 use mathlib.Core.Logic.{_⊎_, inl, inr}
 use mathlib.Core.Bool.{Bool, true, false, not, cond}
 use Prim.Native.Nat.{ℕ}
@@ -8,18 +8,21 @@ use lib.Dec.{T}
 use lib.Ieee.{Float, nan, inf, fin, Format, binary64, size, odd, ofBits, add, mul, div, neg, lt, le, fits}
 use lib.Ieee.Fits.{add-fits}
 use lib.Ieee.Scale as scale
-use Rattle.floats.specs.Notation.{Rounded, rounded}
+use Rattle.floats.specs.Notation.{Rounded, rounded, two}
 use Rattle.floats.specs.Definitions.{magnitude}
 use Rattle.floats.specs.Tests.{both, keeps}
 use Rattle.floats.specs.Order.{nought, le-tr, le-rf, lt→nle, nlt→le, le→number, Within, within-finite, widen}
 use Rattle.floats.specs.Quotients.{positive-up}
 use Rattle.floats.specs.Products.{square-from, finite-number}
-use Rattle.floats.specs.Intervals.{Known, none, known, Expr, var, add·, sub·, mul·, div·, bound, inside, bounded, is-finite}
+use Rattle.floats.specs.Intervals.{Known, none, known, Expr, var, lit, add·, sub·, mul·, div·, eval, bound, inside, bounded, is-finite}
 use Rattle.floats.proofs.FromZero.{magnitude-finite, magnitude-from, magnitude-within, square-grows, sum-from, sum-grows, total, numerator-finite}
+use Rattle.numbers.specs.Constants.{𝟏, PI, ANGLE-LIMIT}
 use Rattle.numbers.specs.Root.{root}
+use Rattle.numbers.specs.Sines.{sin, cos}
+use Rattle.numbers.proofs.Ranges.{ranges}
 use Rattle.numbers.proofs.RootOrder.{root-grows, root-within}
 use Rattle.algebra.specs.Vectors.{epsilon}
-use Rattle.algebra.specs.Quaternions.{quaternion, identity, times, norm, normalize, finite}
+use Rattle.algebra.specs.Quaternions.{quaternion, identity, times, norm, normalize, apply-delta, finite}
 use Rattle.algebra.specs.declared.quaternion.Quaternion.{Quaternion}
 
 abbrev Each : (Float → Type 0) → Quaternion → Type 0
@@ -219,19 +222,47 @@ small-finite q a =
     simp both (((one _ (a .0), one _ (a .1)), one _ (a .2)), one _ (a .3))
 
 -- ---- the product of two such
-pub times-finite : (p q : Quaternion) → AllSmall p → AllSmall q → T (finite (times binary64 p q))
-unfolding times finite bound neg le
-times-finite p q a b =
+abbrev Product : Float → Type 0
+Product x = Within x (neg (power 720)) (power 720)
+
+abbrev pub AllProducts : Quaternion → Type 0
+AllProducts = Each Product
+
+pub times-within : (p q : Quaternion) → AllSmall p → AllSmall q → AllProducts (times binary64 p q)
+unfolding times bound inside neg le
+times-within p q a b =
     let of : (x : Float) → Small x → Known → Known = λ x w k. known x (neg (power 352)) (power 352) w k in
     let k = of (p .0) (a .0) (of (p .1) (a .1) (of (p .2) (a .2) (of (p .3) (a .3) (of (q .0) (b .0) (of (q .1) (b .1) (of (q .2) (b .2) (of (q .3) (b .3) none))))))) in
     let term : ℕ → ℕ → Expr = λ i j. mul· (var i) (var j) in
+    let within : (e : Expr) → T (inside (bound binary64 k e) (neg (power 720)) (power 720)) → Product (eval binary64 k e) = λ e. bounded binary64 k e (neg (power 720)) (power 720) in (
+      within (sub· (sub· (sub· (term 0 4) (term 1 5)) (term 2 6)) (term 3 7)) tt,
+      within (sub· (add· (add· (term 0 5) (term 1 4)) (term 2 7)) (term 3 6)) tt,
+      within (add· (add· (sub· (term 0 6) (term 1 7)) (term 2 4)) (term 3 5)) tt,
+      within (add· (sub· (add· (term 0 7) (term 1 6)) (term 2 5)) (term 3 4)) tt,
+    )
+
+pub times-finite : (p q : Quaternion) → AllSmall p → AllSmall q → T (finite (times binary64 p q))
+unfolding finite neg
+times-finite p q a b =
+    let w = times-within p q a b in
+    let one : (x : Float) → Product x → Finite x = λ x. within-finite x _ _ tt tt in
+    simp both (((one _ (w .0), one _ (w .1)), one _ (w .2)), one _ (w .3))
+
+-- ---- and that product turned by a heading
+pub apply-delta-finite : (q : Quaternion) (delta : Float) → AllProducts q → Within delta (neg PI) PI → T (finite (apply-delta binary64 q delta))
+unfolding apply-delta finite bound inside neg ofBits
+apply-delta-finite q delta w d =
+    let half = div binary64 delta (two binary64) in
+    let served = bounded binary64 (known delta (neg PI) PI d none) (div· (var 0) (lit (two binary64))) (neg ANGLE-LIMIT) ANGLE-LIMIT tt in
+    let of : (x : Float) → Product x → Known → Known = λ x v k. known x (neg (power 720)) (power 720) v k in
+    let k =
+    known (cos binary64 half) (neg 𝟏) 𝟏 (ranges .cos .within half served)
+    (known (sin binary64 half) (neg 𝟏) 𝟏 (ranges .sin .within half served) (of (q .0) (w .0) (of (q .1) (w .1) (of (q .2) (w .2) (of (q .3) (w .3) none))))) in
+    let term : ℕ → ℕ → Expr = λ i j. mul· (var i) (var j) in
     simp both (
       (
-        (
-          is-finite binary64 k (sub· (sub· (sub· (term 0 4) (term 1 5)) (term 2 6)) (term 3 7)) tt,
-          is-finite binary64 k (sub· (add· (add· (term 0 5) (term 1 4)) (term 2 7)) (term 3 6)) tt,
-        ),
-        is-finite binary64 k (add· (add· (sub· (term 0 6) (term 1 7)) (term 2 4)) (term 3 5)) tt,
+        (is-finite binary64 k (sub· (term 0 2) (term 1 5)) tt, is-finite binary64 k (sub· (term 0 3) (term 1 4)) tt),
+        is-finite binary64 k (add· (term 0 4) (term 1 3)) tt,
       ),
-      is-finite binary64 k (add· (sub· (add· (term 0 7) (term 1 6)) (term 2 5)) (term 3 4)) tt,
+      is-finite binary64 k (add· (term 0 5) (term 1 2)) tt,
     )

@@ -1,26 +1,26 @@
 -- A bound on an expression is computed (`bounded`), with nothing known of tau and ts but that they are taken.
 -- The angle's upper bound is no such: it holds because ts is at most tau.
-use mathlib.Core.Path.{_≡_, refl, subst, ap, _∙_}
-use mathlib.Core.Logic.{_⊎_, inl, inr}
-use mathlib.Core.Bool.{Bool, true, false, not, _||_, cond}
+use mathlib.Core.Path.{_≡_, refl, sym, subst, ap, _∙_}
+use mathlib.Core.Bool.{false, not}
 use lib.Dec.{T}
-use lib.Ieee.{Float, nan, inf, fin, binary64, ofBits, add, sub, mul, div, neg, lt, eq, le, round, isNan}
+use lib.Ieee.{Float, nan, binary64, ofBits, add, sub, mul, div, neg, le, round}
 use lib.Ieee.Scale.{finite}
 use lib.Ieee.Positive.{num, den}
 use Rattle.floats.specs.Notation.{Rounded, rounded}
+use Rattle.floats.specs.NoNan.{is-nan}
 use Rattle.floats.specs.Tests.{both}
 use Rattle.floats.specs.Order.{le-tr, Within, within-finite}
 use Rattle.floats.specs.Products.{mul-mono, mul-sym}
 use Rattle.floats.specs.Quotients.{div-anti, positive-up}
 use Rattle.floats.specs.Relative.{undone}
-use Rattle.floats.specs.Intervals.{none, known, Expr, var, lit, neg·, add·, sub·, mul·, div·, bound, inside, bounded}
-use Rattle.numbers.specs.Constants.{𝟎, 𝟏, PI, TAN-LIMIT, EXP-LIMIT}
+use Rattle.floats.specs.Intervals.{none, known, Expr, var, lit, add·, sub·, mul·, div·, bound, inside, bounded}
+use Rattle.numbers.specs.Constants.{𝟎, 𝟏, PI, TAN-LIMIT}
 use Rattle.numbers.specs.Sines.{tan}
-use Rattle.numbers.specs.Exponential.{exp}
 use Rattle.numbers.proofs.Ranges.{ranges}
 use Rattle.filters.specs.Coefficients.{𝟐, SQRT-2, angle, coeffs, filter-coeffs, finite-coeffs, gain-from-tau}
 use Rattle.filters.specs.declared.coeffs.Coeffs.{Coeffs}
-use Rattle.filters.specs.Bounds.{LEAST, MOST, Interval, Constant, GainConstant, Bounded, Bounds}
+use Rattle.filters.specs.Bounds.{LEAST, MOST, Interval, Constant, Bounded, Bounds}
+use Rattle.filters.proofs.Gains.{gain-within}
 open Rounded (rounded binary64) using (_⊕_, _⊖_, _⊗_, _⊘_)
 
 -- ---- the angle, PI * (K / tau) * ts: where tau is ts it undoes a division, but for two roundings, and a larger tau makes it smaller
@@ -119,40 +119,9 @@ of-tangent : (tau ts : Float) → Interval ts → Constant tau ts → Bounded (f
 unfolding filter-coeffs
 of-tangent tau ts v w = coeffs-within (tan (angle tau ts)) (ranges .tan .within (angle tau ts) (angle-within tau ts v w))
 
-nan-only : (x : Float) → isNan x ≡ true → x ≡ nan
-unfolding isNan
-nan-only nan e = refl
-nan-only (inf s) e = cc
-nan-only (fin s m d) e = cc
-
 no-coeffs : coeffs nan ≡ record { b0 = nan; b1 = nan; b2 = nan; a1 = nan; a2 = nan }
 unfolding coeffs add sub mul div neg ofBits
 no-coeffs = refl
-
--- ---- the gain
-exponent : (tau ts : Float) → Interval ts → Within tau LEAST MOST → Within (neg ts ⊘ tau) (neg EXP-LIMIT) 𝟎
-unfolding bound inside neg ofBits
-exponent tau ts v w = bounded binary64 (known ts LEAST 𝟏 v (known tau LEAST MOST w none)) (div· (neg· (var 0)) (var 1)) (neg EXP-LIMIT) 𝟎 tt
-
-rest : (e : Float) → Within e 𝟎 𝟏 → Within (𝟏 ⊖ e) 𝟎 𝟏
-unfolding bound inside ofBits
-rest e w = bounded binary64 (known e 𝟎 𝟏 w none) (sub· (lit 𝟏) (var 0)) 𝟎 𝟏 tt
-
--- nothing, all, or x where neither test passes
-chosen : (a b : Bool) (x : Float) → (T (a || b) ⊎ Within x 𝟎 𝟏) → Within (cond a 𝟎 (cond b 𝟏 x)) 𝟎 𝟏
-unfolding le ofBits
-chosen true b x h = (tt, tt)
-chosen false true x h = (tt, tt)
-chosen false false x (inl h) = absurd h
-chosen false false x (inr h) = h
-
-of-exponential : (tau ts : Float) → Interval ts → GainConstant tau → Within (gain-from-tau binary64 tau ts) 𝟎 𝟏
-unfolding gain-from-tau le
-of-exponential tau ts v w = chosen (lt tau 𝟎) (eq tau 𝟎) _ (by-kind w)
-  where
-    by-kind : GainConstant tau → T (le tau 𝟎) ⊎ Within (𝟏 ⊖ exp binary64 (neg ts ⊘ tau)) 𝟎 𝟏
-    by-kind (inl u) = inl (u .1)
-    by-kind (inr u) = inr (rest _ (ranges .exp .within _ (exponent tau ts v u)))
 
 pub bounds : Bounds
 unfolding filter-coeffs ofBits
@@ -160,9 +129,9 @@ bounds = record {
   angle-within = angle-within;
   filter-coeffs-within = of-tangent;
   filter-coeffs-finite = λ tau ts v w. within→finite (filter-coeffs tau ts) (of-tangent tau ts v w);
-  filter-coeffs-outside = λ tau ts h. ap coeffs (nan-only (tan (angle tau ts)) (ranges .tan .domain (angle tau ts) ∙ ap not h)) ∙ no-coeffs;
-  gain-within = of-exponential;
-  gain-finite = λ tau ts v w. within-finite (gain-from-tau binary64 tau ts) 𝟎 𝟏 tt tt (of-exponential tau ts v w);
+  filter-coeffs-outside = λ tau ts h. ap coeffs (is-nan (tan (angle tau ts)) (subst T (sym (ranges .tan .domain (angle tau ts) ∙ ap not h)) tt)) ∙ no-coeffs;
+  gain-within = gain-within binary64;
+  gain-finite = λ tau ts v w. within-finite (gain-from-tau binary64 tau ts) 𝟎 𝟏 tt tt (gain-within binary64 tau ts v w);
 }
 
 -- ---- what is taken is finite itself

@@ -3,8 +3,9 @@ use mathlib.Core.Path.{_≡_}
 use mathlib.Core.Logic.{_⊎_}
 use mathlib.Core.Bool.{false}
 use lib.Dec.{T}
-use lib.Ieee.{Float, nan, binary64, neg}
+use lib.Ieee.{Float, nan, Format, binary64, neg}
 use lib.Ieee.Scale.{finite}
+use Rattle.floats.specs.Notation.{zero, one}
 use Rattle.floats.specs.Decimals.{ten-thousand, ten-thousandth}
 use Rattle.floats.specs.Order.{Within}
 use Rattle.numbers.specs.Constants.{𝟎, 𝟏, between, TAN-LIMIT}
@@ -26,6 +27,10 @@ Constant tau ts = Within tau ts MOST
 
 abbrev pub GainConstant : Float → Type 0
 GainConstant tau = Within tau (neg MOST) 𝟎 ⊎ Within tau LEAST MOST
+
+-- in either format
+abbrev pub Gain : Format → Float → Type 0
+Gain w k = Within k (zero w) (one w)
 
 -- each coefficient lies within -2 and 2
 abbrev pub Bounded : Coeffs → Type 0

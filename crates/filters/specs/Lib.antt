@@ -4,3 +4,4 @@ pub mod Banks
 pub mod Bounds
 pub mod InStep
 pub mod Values
+pub mod Counts

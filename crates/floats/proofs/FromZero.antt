@@ -6,8 +6,9 @@ use native.Mathlib.Omega.{arith}
 use mathlib.Core.Bool.{Bool, true, false, not, cond}
 use lib.IntN.{ℤ}
 use lib.Dec.{T}
-use lib.Ieee.{Float, nan, inf, fin, Format, up, down, add, mul, div, neg, lt, eq, le}
+use lib.Ieee.{Float, nan, inf, fin, Format, binary32, binary64, up, down, add, mul, div, neg, lt, eq, le, ofBits}
 use lib.Ieee.Scale.{finite}
+use Rattle.floats.specs.Notation.{zero}
 use Rattle.floats.specs.Definitions.{magnitude, larger, smaller}
 use Rattle.floats.specs.Fractions.{signed→le}
 use Rattle.floats.specs.Order.{nought, number, le-tr, le-rf, lt→le, nlt→le, le→number, Within, within-finite, neg-le}
@@ -68,6 +69,16 @@ sum-number f (fin s m e) (fin t n d) h k =
 
 pub sum-from : (f : Format) (x y : Float) → T (le nought x) → T (le nought y) → T (le nought (add f x y))
 sum-from f x y h k = sum-unsigned f x y (λ (_ : _). h) (λ (_ : _). k) (sum-number f x y h k)
+
+pub zero-level : (w : Format) → Within (zero w) nought nought
+unfolding le ofBits
+zero-level binary32 = (tt, tt)
+zero-level binary64 = (tt, tt)
+
+pub sum-from-zero : (w : Format) (x y : Float) → T (le (zero w) x) → T (le (zero w) y) → T (le (zero w) (add w x y))
+sum-from-zero w x y h k =
+    let z = zero-level w in
+    le-tr (zero w) nought (add w x y) (z .1) (sum-from w x y (le-tr nought (zero w) x (z .0) h) (le-tr nought (zero w) y (z .0) k))
 
 pub sum-grows : (f : Format) (x x' y y' : Float) → T (le nought x) → T (le x x') → T (le nought y) → T (le y y') → T (le (add f x y) (add f x' y'))
 sum-grows f x x' y y' g h i k = go x' y' h k

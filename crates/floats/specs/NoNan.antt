@@ -25,7 +25,7 @@ not-self-equal (fin s m e) h = absurd (subst T h (signed→eq s (m * up e * down
 pub number-bits : (n : ℕ) → n % 2 ^ 63 ≤ 0x7ff0_0000_0000_0000 → T (not (nanBits binary64 n))
 number-bits n h = subst (λ (b : Bool). T (not b)) (sym (nanBits-above binary64 n)) (le→nltb 0x7ff0_0000_0000_0000 (n % 2 ^ 63) h)
 
-is-nan : (x : Float) → T (isNan x) → x ≡ nan
+pub is-nan : (x : Float) → T (isNan x) → x ≡ nan
 unfolding isNan
 is-nan nan t = refl
 is-nan (inf s) t = absurd t

@@ -2,12 +2,13 @@
 use mathlib.Core.Bool.{Bool, true, false, not, cond, _&&_, _||_, Bool·beq}
 use mathlib.Core.List.{List, [], _∷_}
 use lib.Dec.{T}
-use lib.Ieee.{Float, Format, binary32, binary64, ofBits, neg, lt, le, eq}
+use lib.Ieee.{Float, Format, neg, lt, le, eq}
 use lib.Ieee.Scale as scale
 use Rattle.floats.specs.Notation.{zero}
 use Rattle.floats.specs.Tests.{both, keeps}
 use Rattle.floats.specs.Order.{nought, number, le-tr, le-rf, nlt→le, le→number, neg-le, Within}
 use Rattle.floats.specs.Products.{finite-number}
+use Rattle.floats.proofs.FromZero.{zero-level}
 use Rattle.algebra.specs.Vectors.{origin, clipped, clip, finite}
 use Rattle.algebra.specs.Quaternions.{times}
 use Rattle.algebra.specs.Matrices.{invert}
@@ -37,11 +38,6 @@ use Rattle.inertial.proofs.BiasLimit.{limit-within}
 use Rattle.inertial.proofs.Tested.{fits}
 
 -- ---- what is clipped to ±c, and the origin
-nil : (w : Format) → T (le nought (zero w)) × T (le (zero w) nought)
-unfolding le ofBits
-nil binary32 = (tt, tt)
-nil binary64 = (tt, tt)
-
 module _ (c : Float) (h : T (le nought c)) where
   below : T (le (neg c) nought)
   below = le-tr (neg c) (neg nought) nought (neg-le nought c h) (unfold le neg in tt)
@@ -69,7 +65,7 @@ module _ (c : Float) (h : T (le nought c)) where
   origin-within : (w : Format) → T (all-within c (origin w))
   unfolding all-within
   origin-within w =
-      let one : Within (zero w) (neg c) c = (le-tr (neg c) nought (zero w) below (nil w .0), le-tr (zero w) nought c (nil w .1) h) in
+      let one : Within (zero w) (neg c) c = (le-tr (neg c) nought (zero w) below (zero-level w .0), le-tr (zero w) nought c (zero-level w .1) h) in
       simp both ((one, one), one)
 
 module _ (w : Format) where
@@ -97,7 +93,7 @@ module _ (w : Format) where
 
   -- ---- the calls
   abbrev pub Held : Inertial → Type 0
-  Held f = T (threshold-taken w (f .params .rest .«bias_clip»)) × T (setters.bias-taken w (f .params .rest .«bias_clip») (f .state .bias .bias))
+  Held f = T (threshold-taken w (f .params .rest .«bias_clip»)) × T (all-within (gyr.radians w (f .params .rest .«bias_clip»)) (f .state .bias .bias))
 
   abbrev Left : Told Inertial → Type 0
   Left t = Held (t .left)
@@ -117,7 +113,7 @@ module _ (w : Format) where
     gyr-held v ts =
         keeps Left (gyr-taken w v) _ _ (λ _. keeps Left (interval-taken w ts) _ _ (λ _. keeps Left (gyr-rest-of w f v .finite && quat-of w f v ts .finite) _ _ (λ _. h) h) h) h
 
-    bias-held : (acc : Vector) → T (bias-of w f acc .finite) → T (setters.bias-taken w (f .params .rest .«bias_clip») (bias-of w f acc .bias .bias))
+    bias-held : (acc : Vector) → T (bias-of w f acc .finite) → T (all-within (gyr.radians w (f .params .rest .«bias_clip»)) (bias-of w f acc .bias .bias))
     unfolding bias-step
     bias-held acc =
         let clip = gyr.radians w (f .params .rest .«bias_clip») in

@@ -5,6 +5,8 @@ pub mod Tested
 pub mod BiasLimit
 pub mod FiniteCalls
 pub mod BiasHeld
+pub mod CountsHeld
 pub mod Sound
+pub mod Sigma
 pub mod Turns
 pub mod Answers

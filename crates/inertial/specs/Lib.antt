@@ -13,3 +13,4 @@ pub mod RestHistory
 pub mod Answers
 pub mod BiasLimit
 pub mod Turns
+pub mod HowFar

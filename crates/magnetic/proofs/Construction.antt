@@ -2,8 +2,9 @@
 use mathlib.Core.Logic.{_⊎_, inl, inr}
 use mathlib.Core.Bool.{Bool, true, false, cond}
 use lib.Dec.{T}
-use lib.Ieee.{Float, binary64, ofBits, neg, lt, le}
+use lib.Ieee.{Float, Format, binary64, ofBits, neg, lt, le}
 use lib.Ieee.Scale.{finite}
+use Rattle.floats.specs.Notation.{zero}
 use Rattle.floats.specs.Tests.{both, either, is-true}
 use Rattle.floats.specs.Order.{lt→nle, Within, within-finite}
 use Rattle.numbers.specs.Constants.{𝟎, 𝟏}
@@ -12,7 +13,7 @@ use Rattle.filters.proofs.Bounds.{bounds, interval-finite}
 use Rattle.filters.specs.Channels.{finite-channel}
 use Rattle.filters.specs.Banks.{finite-channels}
 use Rattle.filters.specs.Coefficients.{filter-coeffs}
-use Rattle.limits.specs.Limits.{within, tau-or-off-taken, norm-threshold-limit, dip-threshold-limit, min-gyr-limit, rejection-factor-limit}
+use Rattle.limits.specs.Limits.{longest, within, tau-or-off-taken, norm-threshold-limit, dip-threshold-limit, min-gyr-limit, rejection-factor-limit}
 use Rattle.magnetic.specs.Fields.{finite-field}
 use Rattle.magnetic.specs.Headings.{finite-heading}
 use Rattle.magnetic.specs.Setup.{taken, taus-taken, thresholds-taken, times-taken, smoothing-of, setup, restarted-field, fresh-state, new}
@@ -22,11 +23,11 @@ use Rattle.magnetic.specs.declared.types.Smoothing.the-variants.{Absent,
 use Rattle.magnetic.specs.AllFinite.{finite-params, finite-smoothing, finite-coefficients, finite-state, all-finite}
 
 -- off, or from least up
-tau-or-off : (least tau : Float) → T (tau-or-off-taken binary64 least tau) → Within tau (neg MOST) 𝟎 ⊎ Within tau least MOST
+pub tau-or-off : (w : Format) (least tau : Float) → T (tau-or-off-taken w least tau) → Within tau (neg (longest w)) (zero w) ⊎ Within tau least (longest w)
 unfolding tau-or-off-taken
-tau-or-off least tau t = go (either (within (neg MOST) 𝟎 tau) (within least MOST tau) t)
+tau-or-off w least tau t = go (either (within (neg (longest w)) (zero w) tau) (within least (longest w) tau) t)
   where
-    go : T (within (neg MOST) 𝟎 tau) ⊎ T (within least MOST tau) → Within tau (neg MOST) 𝟎 ⊎ Within tau least MOST
+    go : T (within (neg (longest w)) (zero w) tau) ⊎ T (within least (longest w) tau) → Within tau (neg (longest w)) (zero w) ⊎ Within tau least (longest w)
     go (inl h) = inl (simp both at h)
     go (inr h) = inr (simp both at h)
 
@@ -56,15 +57,15 @@ module _ (p : MagneticParams) (ts : Float) (t : T (taken binary64 p ts)) where
 
   of-tau-mag : GainConstant (p .«tau_mag»)
   unfolding taken taus-taken
-  of-tau-mag = tau-or-off LEAST _ ((simp both at t) .0 .0 .1 .0 .0)
+  of-tau-mag = tau-or-off binary64 LEAST _ ((simp both at t) .0 .0 .1 .0 .0)
 
   of-current-tau : Within (p .«mag_current_tau») (neg MOST) 𝟎 ⊎ Constant (p .«mag_current_tau») ts
   unfolding taken taus-taken
-  of-current-tau = tau-or-off ts _ ((simp both at t) .0 .0 .1 .0 .1)
+  of-current-tau = tau-or-off binary64 ts _ ((simp both at t) .0 .0 .1 .0 .1)
 
   of-ref-tau : GainConstant (p .«mag_ref_tau»)
   unfolding taken taus-taken
-  of-ref-tau = tau-or-off LEAST _ ((simp both at t) .0 .0 .1 .1)
+  of-ref-tau = tau-or-off binary64 LEAST _ ((simp both at t) .0 .0 .1 .1)
 
   times-finite : T (finite (p .«mag_new_time»)) × T (finite (p .«mag_new_first_time»)) × T (finite (p .«mag_min_undisturbed_time»)) × T (finite (p .«mag_max_rejection_time»))
   unfolding taken times-taken ofBits

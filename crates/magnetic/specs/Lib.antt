@@ -8,3 +8,4 @@ pub mod Decimals
 pub mod AllFinite
 pub mod Construction
 pub mod Answers
+pub mod HowFar

@@ -3,7 +3,7 @@
 use lib.Dec.{T}
 use lib.Ieee.{Float, Format, binary32, binary64, ofBits, add, mul, div, neg, le}
 use lib.Ieee.Fits.{add-fits}
-use lib.Ieee.Positive.{positive}
+use lib.Ieee.Scale.{finite}
 use Rattle.floats.specs.Notation.{zero, one, two}
 use Rattle.floats.specs.Order.{nought, Within}
 use Rattle.floats.specs.Intervals.{Known, none, known, Expr, var, lit, sqr·, add·, mul·, div·, bound, inside, bounded}
@@ -35,10 +35,10 @@ unfolding bound inside add mul div neg le ofBits
 squares-within binary32 x y z p q r = bounded binary32 (rates binary32 x y z p q r) (squares· binary32) nought (most binary32) tt
 squares-within binary64 x y z p q r = bounded binary64 (rates binary64 x y z p q r) (squares· binary64) nought (most binary64) tt
 
-most-positive : (w : Format) → T (positive (most w))
+most-finite : (w : Format) → T (finite (most w))
 unfolding add mul div ofBits
-most-positive binary32 = tt
-most-positive binary64 = tt
+most-finite binary32 = tt
+most-finite binary64 = tt
 
 abbrev turn : (w : Format) (n ts : Float) → Within n nought (root w (most w)) → Within ts (zero w) (one w) → Known
 turn w n ts p q = known n nought (root w (most w)) p (known ts (zero w) (one w) q none)
@@ -49,7 +49,7 @@ half-within binary32 n ts p q = bounded binary32 (turn binary32 n ts p q) (half�
 half-within binary64 n ts p q = bounded binary64 (turn binary64 n ts p q) (half· binary64) (zero binary64) (largest binary64) tt
 
 pub norm-within : (w : Format) (x y z : Float) → Rate w x → Rate w y → Rate w z → Within (root w (squares w x y z)) nought (root w (most w))
-norm-within w x y z p q r = root-up-to w (squares w x y z) (most w) (add-fits w _ _) (add-fits w _ _) (most-positive w) (squares-within w x y z p q r)
+norm-within w x y z p q r = root-up-to w (squares w x y z) (most w) (add-fits w _ _) (add-fits w _ _) (most-finite w) (squares-within w x y z p q r)
 
 largest-served : (w : Format) → T (le (largest w) ANGLE-LIMIT)
 unfolding root add mul div le ofBits

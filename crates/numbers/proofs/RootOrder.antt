@@ -13,11 +13,12 @@ use lib.Ieee.Digits.{back}
 use lib.Ieee.Fits.{and-l, and-r, up-pos, down-pos}
 use lib.Ieee.Exact.{HasValue}
 use lib.Ieee.Order.{le-of-values}
-use lib.Ieee.Positive.{positive, positive-finite, values-of-le}
+use lib.Ieee.Positive.{positive, values-of-le}
 use lib.Ieee.Scale.{finite}
 use Rattle.floats.specs.Fractions.{le→ord}
-use Rattle.floats.specs.Order.{nought, le-tr, Within, within-finite}
+use Rattle.floats.specs.Order.{nought, le-tr, le-rf, le→number, Within, within-finite}
 use Rattle.floats.specs.Rounding.{zeros}
+use Rattle.floats.specs.Quotients.{positive-up}
 use Rattle.numbers.specs.Root.{count, square, Value, Nearest, root}
 use Rattle.numbers.proofs.RootLaws.{root-nearest, square-count, square-lt}
 
@@ -123,12 +124,15 @@ root-within f (fin false (suc m) e) u p h =
         omega arith
 
 -- ---- from zero on it grows too
-pub root-up-to : (f : Format) (x y : Float) → T (fits f x) → T (fits f y) → T (positive y) → Within x nought y → Within (root f x) nought (root f y)
-root-up-to f x y u v q h = let p = within-finite x nought y tt (positive-finite y q) h in (root-within f x u p (h .0) .0, up-to x u p h)
+pub root-up-to : (f : Format) (x y : Float) → T (fits f x) → T (fits f y) → T (finite y) → Within x nought y → Within (root f x) nought (root f y)
+root-up-to f x y u v q h = let p = within-finite x nought y tt q h in (root-within f x u p (h .0) .0, up-to x u p h)
   where
     up-to : (x : Float) → T (fits f x) → T (finite x) → Within x nought y → T (le (root f x) (root f y))
     up-to nan u p h = absurd p
     up-to (inf s) u p h = absurd p
-    up-to (fin s zero e) u p h = unfold root in le-tr (fin s zero e) nought (root f y) (zeros (fin s zero e) nought (tt, zero-mul (up e)) (tt, refl)) (root-within f y v (positive-finite y q) (le-tr nought (fin s zero e) y (h .0) (h .1)) .0)
+    up-to (fin s zero e) u p h = unfold root in le-tr (fin s zero e) nought (root f y) (zeros (fin s zero e) nought (tt, zero-mul (up e)) (tt, refl)) (root-within f y v q (le-tr nought (fin s zero e) y (h .0) (h .1)) .0)
     up-to (fin true (suc m) e) u p h = absurd (not-negative m e (h .0))
-    up-to (fin false (suc m) e) u p h = root-grows f (fin false (suc m) e) y u v (lt→ltb 0 (suc m) (zero-lt-suc m)) q (h .1)
+    up-to (fin false (suc m) e) u p h =
+        let x = fin false (suc m) e in
+        let positive-x = lt→ltb 0 (suc m) (zero-lt-suc m) in
+        root-grows f x y u v positive-x (positive-up y x y positive-x q (h .1, le-rf y (le→number x y (h .1) .1))) (h .1)

@@ -32,7 +32,7 @@ use Rattle.vqf.specs.declared.types.Sample.the-variants.{Absent, Given}
 use Rattle.vqf.proofs.Construction.{construction}
 use Rattle.vqf.proofs.Reached.{reached}
 
-abbrev Finite : VQF → Type 0
+abbrev pub Finite : VQF → Type 0
 Finite f = T (all-finite f)
 
 -- ---- the clip, after any calls
@@ -43,7 +43,7 @@ leaves-clipped : (gyr-ts : Float) (acc-ts mag-ts : Interval) (given : Settings) 
 leaves-clipped = reached binary64 ClipTaken (λ p gyr-ts acc-ts calls t. reached-held binary64 p gyr-ts acc-ts calls t .0)
 
 -- ---- the calls
-inertial-half : (f : VQF) → Finite f → T (inertial.all-finite (f .inertial))
+pub inertial-half : (f : VQF) → Finite f → T (inertial.all-finite (f .inertial))
 unfolding all-finite
 inertial-half f h = (simp both at h) .0
 

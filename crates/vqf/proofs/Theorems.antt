@@ -15,6 +15,7 @@ use Rattle.vqf.proofs.Refused.{refused}
 use Rattle.vqf.proofs.Construction.{construction}
 use Rattle.vqf.proofs.StaysFinite.{stays-finite}
 use Rattle.vqf.proofs.AnswersFinite.{answers-finite}
+use Rattle.vqf.proofs.HowFar.{how-far}
 use Rattle.vqf.proofs.Turns.{turns}
 use Rattle.vqf.proofs.Apart.{apart}
 use Rattle.vqf.proofs.RestHistory.{rest-from-history}
@@ -27,6 +28,7 @@ theorems = record {
   construction = construction;
   stays-finite = stays-finite;
   answers-finite = answers-finite;
+  how-far = how-far;
   turns = turns;
   by-size = by-size;
   bias-limit = bias-limit;

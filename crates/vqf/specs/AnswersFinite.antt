@@ -12,10 +12,10 @@ use Rattle.vqf.specs.declared.types.VQF.{VQF}
 use Rattle.vqf.specs.declared.types.Interval.{Interval}
 use Rattle.vqf.specs.declared.types.Settings.{Settings}
 
--- `quat-9d` is not among them: it takes the sine and the cosine of delta, which are given within ±256, and no bound on delta is proved yet
 pub record AnswersFinite (f : VQF) : Type 0 where
   pub quat-3d : T (quaternions.finite (asked.quat-3d f))
   pub quat-6d : T (quaternions.finite (asked.quat-6d binary64 f))
+  pub quat-9d : T (quaternions.finite (asked.quat-9d binary64 f))
   pub delta : T (finite (asked.delta f))
   pub bias : T (vectors.finite (asked.bias-estimate binary64 f .bias))
   pub bias-sigma : T (finite (asked.bias-estimate binary64 f .sigma))

@@ -11,6 +11,7 @@ pub mod AllFinite
 pub mod Construction
 pub mod Worked
 pub mod StaysFinite
+pub mod HowFar
 pub mod AnswersFinite
 pub mod Turns
 pub mod Answers

@@ -15,6 +15,7 @@ use Rattle.vqf.specs.Refused.{Refused}
 use Rattle.vqf.specs.Construction.{Construction}
 use Rattle.vqf.specs.StaysFinite.{StaysFinite}
 use Rattle.vqf.specs.AnswersFinite.{AnswersStayFinite}
+use Rattle.vqf.specs.HowFar.{HowFar}
 use Rattle.vqf.specs.Turns.{Turns}
 use Rattle.vqf.specs.Apart.{Apart}
 use Rattle.vqf.specs.RestHistory.{RestFromHistory}
@@ -30,8 +31,10 @@ pub record Theorems : Type 0 where
   pub construction : Construction
   -- whatever is given to the constructor and to the calls after it, every number that the filter holds is finite
   pub stays-finite : StaysFinite
-  -- and so is every number that it answers when asked, `quat_9d` apart
+  -- and so is every number that it answers when asked
   pub answers-finite : AnswersStayFinite
+  -- heading within ±PI, bias within the clip, the gain used within 0 and 1, times and counts from 0 on; how far a sample moves the heading
+  pub how-far : HowFar
   -- a gyro sample that is taken turns within the domain of sine and cosine, and its turn is finite
   pub turns : Turns
   -- what lies within ±limit is no NaN and not in size beyond it
