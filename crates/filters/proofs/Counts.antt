@@ -1,6 +1,6 @@
 -- A count begins at 0 and 1 is added to it; each channel of a bank goes by itself.
-use mathlib.Core.Path.{_≡_, refl, sym, subst, ap, _∙_}
-use mathlib.Core.Bool.{Bool, true, false, cond, _&&_}
+use mathlib.Core.Path.{_≡_, sym, subst, ap, _∙_}
+use mathlib.Core.Bool.{Bool, true}
 use mathlib.Core.List.{List, map}
 use Prim.Native.Nat.{ℕ, zero, suc, _+_, _<_}
 use native.Mathlib.Nat.{not-suc-le-zero, le-of-suc-le-suc, add-zero, add-suc, suc-add, zero-add}
@@ -12,7 +12,7 @@ use Rattle.floats.specs.Notation.{one, narrow}
 use Rattle.floats.specs.Tests.{both, keeps}
 use Rattle.floats.proofs.FromZero.{sum-from-zero}
 use Rattle.filters.specs.Channels.{fresh, filter-initial-state, filter-adapt-state-for-coeff-change, filter-step, average, filter-channel}
-use Rattle.filters.specs.Banks.{from, each, every, sample, channel, filtered, channels, adapted}
+use Rattle.filters.specs.Banks.{from, each, every, sample, channel, channels, adapted}
 use Rattle.filters.specs.Counts.{counts-from-zero, all-from-zero}
 use Rattle.filters.specs.declared.coeffs.Coeffs.{Coeffs}
 use Rattle.filters.specs.declared.channel.Phase.{Phase}

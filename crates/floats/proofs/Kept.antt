@@ -1,13 +1,13 @@
 -- A value of the format is what its own fraction rounds to, but for the sign of a zero: so rounding passes no value of the format, and adding zero leaves one where it is.
 use mathlib.Core.Path.{_≡_, refl, sym, ap, _∙_, subst}
 use Prim.Native.Nat.{ℕ, zero, suc, _+_, _-_, _*_, _%_, _^_, _≤_, _<_}
-use native.Mathlib.Nat.{lt-of-not-le, not-le-of-lt, mul-one, one-mul, zero-mul, add-zero, mul-comm, mul-assoc, mul-left-comm, mul-lt-mul-of-pos-right, mul-le-mul-right, le-of-suc-le-suc}
+use native.Mathlib.Nat.{lt-of-not-le, not-le-of-lt, mul-one, zero-mul, add-zero, mul-comm, mul-assoc, mul-left-comm, mul-lt-mul-of-pos-right, mul-le-mul-right, le-of-suc-le-suc}
 use native.Mathlib.Omega.{arith}
-use mathlib.Core.Bool.{Bool, true, false, not, _&&_, cond}
+use mathlib.Core.Bool.{Bool, true, false, not, _&&_}
 use lib.IntN.{ℤ, pos, negsuc}
 use lib.Dec.{T, ltb, leb, eqb, ltb→lt, leb→le}
 use lib.Pow.{pow-add, pow-pos, pow-lt}
-use lib.Ieee.{Float, nan, inf, fin, Format, prec, emax, low, up, down, round, add, mul, neg, le, fits, unlike}
+use lib.Ieee.{Float, nan, inf, fin, Format, prec, emax, low, up, down, round, add, mul, neg, fits, unlike}
 use lib.Ieee.Fits.{and-l, and-r}
 use lib.Ieee.Exact.{HasValue, round-exact}
 use lib.Ieee.Digits.{back}

@@ -2,16 +2,12 @@
 use mathlib.Core.Bool.{Bool, _&&_, _||_, Bool·beq}
 use mathlib.Core.List.{List, [], _∷_}
 use lib.Dec.{T}
-use lib.ListN.{replicate}
 use lib.Ieee.{Float, Format, binary32, binary64, ofBits, le, eq}
 use Rattle.floats.specs.Notation.{zero}
 use Rattle.floats.specs.Tests.{both, keeps}
 use Rattle.floats.specs.Order.{le-tr}
 use Rattle.floats.proofs.FromZero.{sum-from-zero}
-use Rattle.algebra.specs.Matrices.{invert}
-use Rattle.algebra.specs.Quaternions.{times}
 use Rattle.algebra.specs.declared.vector.Vector.{Vector}
-use Rattle.filters.specs.Channels.{fresh}
 use Rattle.filters.specs.Banks.{filter-vec2, filter-vec3, filter-vec9, adapt2, adapt3, adapt9}
 use Rattle.filters.specs.Counts.{all-from-zero}
 use Rattle.filters.proofs.Counts.{channels-from-zero, adapted-from-zero, fresh-from-zero}

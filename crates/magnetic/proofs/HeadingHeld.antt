@@ -4,7 +4,7 @@ use mathlib.Core.Path.{_≡_, refl, sym, subst, ap, _∙_}
 use mathlib.Core.Logic.{_⊎_, inl, inr}
 use mathlib.Core.Bool.{Bool, true, false, not, cond, _&&_}
 use lib.Dec.{T}
-use lib.Ieee.{Float, nan, inf, fin, Format, binary32, binary64, add, sub, mul, neg, lt, le, eq, ne, fits, ofBits}
+use lib.Ieee.{Float, nan, Format, binary32, binary64, add, sub, mul, neg, lt, le, eq, ne, fits, ofBits}
 use lib.Ieee.Fits.{add-fits, sub-fits, cond-fits}
 use lib.Ieee.Scale.{finite}
 use Rattle.floats.specs.Notation.{Rounded, rounded, zero, one, two, pi}

@@ -5,11 +5,9 @@ use mathlib.Core.List.{List}
 use lib.Dec.{T}
 use lib.Ieee.{Float, Format, binary32, binary64, neg, le, fits, ofBits}
 use lib.Ieee.Scale.{finite}
-use Rattle.floats.specs.Notation.{Rounded, rounded, zero, one, pi}
+use Rattle.floats.specs.Notation.{Rounded, rounded, zero, one}
 use Rattle.floats.specs.Tests.{both, keeps}
-use Rattle.floats.specs.Order.{Within}
 use Rattle.floats.specs.Clamps.{cond-within}
-use Rattle.numbers.specs.Arcs.{atan2}
 use Rattle.numbers.proofs.Narrowed.{angle-within}
 use Rattle.algebra.specs.Quaternions.{rotate}
 use Rattle.algebra.specs.declared.vector.Vector.{Vector}
@@ -17,10 +15,10 @@ use Rattle.filters.specs.Bounds.{Gain}
 use Rattle.filters.specs.declared.channel.Channel.{Channel}
 use Rattle.filters.specs.Coefficients.{gain-from-tau}
 use Rattle.filters.proofs.Gains.{gain-within}
-use Rattle.limits.specs.Answers.{Told, told}
+use Rattle.limits.specs.Answers.{Told}
 use Rattle.limits.specs.Limits.{least-tau, mag-taken, zero-sample, gain-tau-taken, ref-norm-taken, ref-dip-taken}
 use Rattle.magnetic.specs.Headings.{wrapped, lifted, corrected}
-use Rattle.magnetic.specs.HowFar.{Angle, gain-rejecting, gain-used, Moved}
+use Rattle.magnetic.specs.HowFar.{gain-rejecting, gain-used, Moved}
 use Rattle.magnetic.specs.Setup.{taken, taus-taken, thresholds-taken, times-taken, setup, fresh-state, new}
 use Rattle.magnetic.specs.Setters.{set-tau-mag, set-mag-ref, restarted, reset-state}
 use Rattle.magnetic.specs.Step.{tried-rejecting, tried-plain, tried, mag-step, update-mag}

@@ -1,9 +1,9 @@
 -- No time of the field is below 0, and no count: an interval is added to a time, or it begins again at 0 or at a setting. The rejection time grows by an
 -- interval where it is at most its limit, and what is taken off it is at least 0.
-use mathlib.Core.Bool.{Bool, cond, _&&_, _||_}
+use mathlib.Core.Bool.{_&&_, _||_}
 use mathlib.Core.List.{List}
 use lib.Dec.{T}
-use lib.Ieee.{Float, Format, binary32, binary64, add, sub, mul, neg, le, eq, fits, ofBits}
+use lib.Ieee.{Float, Format, binary32, binary64, sub, mul, neg, le, eq, fits, ofBits}
 use lib.Ieee.Fits.{add-fits}
 use lib.Ieee.Scale.{finite}
 use Rattle.floats.specs.Notation.{Rounded, rounded, zero, one, pi}
@@ -14,7 +14,7 @@ use Rattle.floats.specs.Order.{nought, le-tr, le-rf, le→number, Within, withi
 use Rattle.floats.specs.Sums.{add-mono}
 use Rattle.floats.specs.Products.{finite-number}
 use Rattle.floats.specs.Clamps.{larger-from-first, larger-up-to}
-use Rattle.floats.specs.Intervals.{Known, none, known, Expr, var, add·, mul·, bound, inside, bounded, good, is-finite}
+use Rattle.floats.specs.Intervals.{none, known, var, add·, mul·, bound, inside, bounded, good, is-finite}
 use Rattle.floats.proofs.FromZero.{zero-level, sum-from-zero}
 use Rattle.floats.proofs.Kept.{plus-nought}
 use Rattle.algebra.specs.declared.vector.Vector.{Vector}

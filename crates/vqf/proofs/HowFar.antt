@@ -1,7 +1,6 @@
 -- Both halves of a filter that is reached were reached by calls that keep their bounds (BiasHeld and CountsHeld of `inertial`, HowFar of `magnetic`).
-use mathlib.Core.Path.{_≡_, sym, ap, _∙_}
+use mathlib.Core.Path.{_≡_, ap, _∙_}
 use mathlib.Core.List.{List}
-use lib.Dec.{T}
 use lib.Ieee.{Float, Format, binary64}
 use Rattle.floats.specs.Tests.{both, keeps}
 use Rattle.limits.specs.Answers.{Told}
