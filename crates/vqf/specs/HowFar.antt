@@ -44,7 +44,7 @@ module _ (w : Format) where
     -- an accepted sample moves the heading by no more than that gain times PI
     pub moved : (mag : Vector) → let t = update-mag w f mag in t .number ≡ 0
         → Moved w (f .magnetic .state .heading) (gain-used w (f .magnetic) (seen w (f .inertial)) mag) (t .left .magnetic .state .heading)
-    -- ---- the times, where the setting is a value of the format, as a setting of the code is
+    -- ---- the times: the first up to its limit and an interval, where that setting is a value of the format, as every setting of the code is
     pub reject-t : T (fits w (f .magnetic .params .«mag_max_rejection_time»))
         → Within (f .magnetic .state .field .«mag_reject_t») (zero w) (f .magnetic .params .«mag_max_rejection_time» ⊕ f .magnetic .coeffs .«mag_ts»)
     pub rest-t : T (le (zero w) (f .inertial .state .rest .«rest_t»))

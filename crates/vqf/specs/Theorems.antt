@@ -33,7 +33,7 @@ pub record Theorems : Type 0 where
   pub stays-finite : StaysFinite
   -- and so is every number that it answers when asked
   pub answers-finite : AnswersStayFinite
-  -- heading within ±PI, bias within the clip, the gain used within 0 and 1, times and counts from 0 on; how far a sample moves the heading
+  -- heading within ±PI, bias within the clip, the gain used within 0 and 1, and how far a sample moves the heading; times and counts from 0 on; the sigma that is told
   pub how-far : HowFar
   -- a gyro sample that is taken turns within the domain of sine and cosine, and its turn is finite
   pub turns : Turns
