@@ -9,8 +9,7 @@ use Rattle.floats.specs.Order.{within-finite}
 use Rattle.algebra.specs.Vectors.{epsilon}
 use Rattle.algebra.specs.Matrices.{adjugate, divided, too-small, invert}
 use Rattle.algebra.specs.Inverses.{is-too-small, is-not-finite, det, Inverses}
-use Rattle.algebra.specs.declared.matrix.Matrix.{Matrix}
-use Rattle.algebra.specs.declared.matrix.Inverse.{Inverse}
+use Rattle.algebra.specs.Types.{Matrix, Inverse}
 use Rattle.algebra.specs.declared.matrix.Inverse.the-variants.{TooSmall, NotFinite, Inverted}
 
 small-finite : (x : Float) → T (too-small x) → T (scale.finite x)

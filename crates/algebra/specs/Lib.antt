@@ -1,3 +1,4 @@
+pub mod Types
 pub mod Vectors
 pub mod Quaternions
 pub mod Matrices

@@ -34,10 +34,10 @@ module _ (w : Format) where
   normalize v = let n = norm v in cond (lt n (epsilon w)) v (each (λ x. x ⊘ n) v)
 
 unfoldable pub clipped : Float → Float → Float → Float
-clipped min max x = cond (lt x min) min (cond (lt max x) max x)
+clipped x min max = cond (lt x min) min (cond (lt max x) max x)
 
-unfoldable pub clip : Float → Float → Vector → Vector
-clip min max = each (clipped min max)
+unfoldable pub clip : Vector → Float → Float → Vector
+clip v min max = each (λ x. clipped x min max) v
 
 unfoldable pub finite : Vector → Bool
 finite v = scale.finite (v .0) && scale.finite (v .1) && scale.finite (v .2)

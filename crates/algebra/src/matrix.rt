@@ -33,6 +33,7 @@ fn dot(row: Vector, column: Vector) -> f64
 }
 
 impl Matrix {
+    // The sum, place by place.
     pub fn plus(self, rhs: Matrix) -> Matrix
         ensures { λ r. ⌜ r ≡ plus binary64 self rhs ⌝ }
     {
@@ -49,6 +50,7 @@ impl Matrix {
         }
     }
 
+    // The difference, place by place.
     pub fn minus(self, rhs: Matrix) -> Matrix
         ensures { λ r. ⌜ r ≡ minus binary64 self rhs ⌝ }
     {
@@ -65,6 +67,7 @@ impl Matrix {
         }
     }
 
+    // The product; each sum starts at 0.
     pub fn times(self, rhs: Matrix) -> Matrix
         ensures { λ r. ⌜ r ≡ times binary64 self rhs ⌝ }
     {
@@ -87,6 +90,7 @@ impl Matrix {
         }
     }
 
+    // Rows and columns exchanged.
     pub fn transpose(self) -> Matrix
         ensures { λ r. ⌜ r ≡ transpose self ⌝ }
     {
@@ -152,6 +156,7 @@ impl Matrix {
         }
     }
 
+    // The inverse, or why there is none.
     pub fn invert(self) -> Inverse
         ensures { λ r. ⌜ r ≡ invert binary64 self ⌝ }
     {
@@ -184,6 +189,7 @@ impl Matrix {
         ]
     }
 
+    // The matrix with these nine numbers, row by row.
     pub fn unflatten(m: [f64; 9]) -> Matrix
         ensures { λ r. ⌜ r ≡ unflatten m ⌝ }
     {
@@ -200,6 +206,7 @@ impl Matrix {
         }
     }
 
+    // p on the diagonal and 0 elsewhere.
     pub fn diagonal(p: f64) -> Matrix
         ensures { λ r. ⌜ r ≡ diagonal binary64 p ⌝ }
     {
@@ -216,6 +223,7 @@ impl Matrix {
         }
     }
 
+    // Whether all nine numbers are finite.
     pub fn finite(self) -> bool
         ensures { λ r. ⌜ r ≡ finite self ⌝ }
     {

@@ -9,6 +9,7 @@ pub struct Quaternion(pub f64, pub f64, pub f64, pub f64);
 impl Quaternion {
     pub const IDENTITY: Quaternion = Quaternion(1.0, 0.0, 0.0, 0.0);
 
+    // The turn rhs followed by self.
     pub fn times(self, rhs: Quaternion) -> Quaternion
         ensures { λ r. ⌜ r ≡ times binary64 self rhs ⌝ }
     {
@@ -19,12 +20,14 @@ impl Quaternion {
         Quaternion(w, x, y, z)
     }
 
+    // The length.
     pub fn norm(self) -> f64
         ensures { λ r. ⌜ r ≡ norm binary64 self ⌝ }
     {
         numbers::sqrt(self.0 * self.0 + self.1 * self.1 + self.2 * self.2 + self.3 * self.3)
     }
 
+    // Of length 1; as it is where it is shorter than EPSILON.
     pub fn normalize(self) -> Quaternion
         ensures { λ r. ⌜ r ≡ normalize binary64 self ⌝ }
     {
@@ -36,6 +39,7 @@ impl Quaternion {
         }
     }
 
+    // v after the turn.
     pub fn rotate(self, v: Vector) -> Vector
         ensures { λ r. ⌜ r ≡ rotate binary64 self v ⌝ }
     {
@@ -51,6 +55,7 @@ impl Quaternion {
         Vector(x, y, z)
     }
 
+    // The orientation after a turn by delta radians about the vertical.
     pub fn apply_delta(self, delta: f64) -> Quaternion
         ensures { λ r. ⌜ r ≡ apply-delta binary64 self delta ⌝ }
     {
@@ -63,6 +68,7 @@ impl Quaternion {
         Quaternion(w, x, y, z)
     }
 
+    // Whether all four numbers are finite.
     pub fn finite(self) -> bool
         ensures { λ r. ⌜ r ≡ finite self ⌝ }
     {

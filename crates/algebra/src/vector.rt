@@ -8,7 +8,7 @@ pub const EPSILON: f64 = 2.220446049250313e-16;
 pub struct Vector(pub f64, pub f64, pub f64);
 
 fn clipped(x: f64, min: f64, max: f64) -> f64
-    ensures { λ r. ⌜ r ≡ clipped min max x ⌝ }
+    ensures { λ r. ⌜ r ≡ clipped x min max ⌝ }
 {
     if x < min {
         min
@@ -22,12 +22,14 @@ fn clipped(x: f64, min: f64, max: f64) -> f64
 impl Vector {
     pub const ZERO: Vector = Vector(0.0, 0.0, 0.0);
 
+    // The length.
     pub fn norm(self) -> f64
         ensures { λ r. ⌜ r ≡ norm binary64 self ⌝ }
     {
         numbers::sqrt(0.0 + self.0 * self.0 + self.1 * self.1 + self.2 * self.2)
     }
 
+    // Of length 1; as it is where it is shorter than EPSILON.
     pub fn normalize(self) -> Vector
         ensures { λ r. ⌜ r ≡ normalize binary64 self ⌝ }
     {
@@ -39,8 +41,9 @@ impl Vector {
         }
     }
 
+    // Each component held to the range from min to max.
     pub fn clip(self, min: f64, max: f64) -> Vector
-        ensures { λ r. ⌜ r ≡ clip min max self ⌝ }
+        ensures { λ r. ⌜ r ≡ clip self min max ⌝ }
     {
         Vector(
             clipped(self.0, min, max),
@@ -49,6 +52,7 @@ impl Vector {
         )
     }
 
+    // Whether all three numbers are finite.
     pub fn finite(self) -> bool
         ensures { λ r. ⌜ r ≡ finite self ⌝ }
     {

@@ -89,15 +89,7 @@ pub fn put_flag(out: &mut [u8; 65536], at: &mut usize, flag: bool) {
 }
 
 pub fn put_answer(out: &mut [u8; 65536], at: &mut usize, answer: Answer) {
-    match answer {
-        Answer::Done => put_text(out, at, b" 0"),
-        Answer::ZeroSample => put_text(out, at, b" 1"),
-        Answer::BadSample => put_text(out, at, b" 2"),
-        Answer::BadInterval => put_text(out, at, b" 3"),
-        Answer::BadSetting => put_text(out, at, b" 4"),
-        Answer::Singular => put_text(out, at, b" 5"),
-        Answer::NotFinite => put_text(out, at, b" 6"),
-    }
+    put_text(out, at, &[b' ', answer.digit()]);
 }
 
 pub fn put_three_answers(

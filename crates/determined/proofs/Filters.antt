@@ -22,5 +22,6 @@ filters = record {
   finite-channel = λ κs a z z′ e e′. equal;
   first-number = λ κs a z z′ e e′. equal;
   filter-coeffs = λ κs a z z′ e e′. equal;
+  finite-coeffs = λ κs a z z′ e e′. equal;
   gain-from-tau = λ κs a z z′ e e′. equal;
 }

@@ -1,6 +1,6 @@
 -- Both results are the definition's.
 use Rattle.determined.specs.Image.{Image}
-use Rattle.determined.proofs.OneResult.{equal, lent}
+use Rattle.determined.proofs.OneResult.{lent, equal}
 
 pub image : Image
 image = record {

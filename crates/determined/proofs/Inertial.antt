@@ -1,18 +1,10 @@
 -- Both results are the definition's.
 use Rattle.determined.specs.Inertial.{Inertial}
-use Rattle.determined.proofs.OneResult.{equal, inertial-call}
+use Rattle.determined.proofs.OneResult.{inertial-call, equal}
 
 pub inertial : Inertial
 inertial = record {
-  acc-rest = λ κs a z z′ e e′. equal;
-  inclined = λ κs a z z′ e e′. equal;
-  broken = λ κs a z z′ e e′. equal;
-  gyr-rest = λ κs a z z′ e e′. equal;
-  predicted = λ κs a z z′ e e′. equal;
-  radians = λ κs a z z′ e e′. equal;
-  squared-deviation = λ κs a z z′ e e′. equal;
   bias-step = λ κs a z z′ e e′. equal;
-  finite-coeffs = λ κs a z z′ e e′. equal;
   taken = λ κs a z z′ e e′. equal;
   Inertial-bias-estimate = λ κs a z z′ e e′. equal;
   Inertial-new = λ κs a z z′ e e′. equal;
@@ -31,5 +23,4 @@ inertial = record {
   Inertial-update-gyr-with-ts = λ κs a z z′ e e′. inertial-call;
   InertialParams-house = λ κs a z z′ e e′. equal;
   InertialState-fresh = λ κs a z z′ e e′. equal;
-  Rest-fresh = λ κs a z z′ e e′. equal;
 }

@@ -5,9 +5,10 @@ pub mod Algebra
 pub mod Filters
 pub mod Limits
 pub mod Words
+pub mod Tilt
 pub mod Inertial
 pub mod Magnetic
-pub mod Whole
+pub mod Filter
 pub mod Readable
 pub mod Script
 pub mod Entry

@@ -4,6 +4,8 @@ use Rattle.determined.proofs.OneResult.{equal}
 
 pub limits : Limits
 limits = record {
+  Answer-digit = λ κs a z z′ e e′. equal;
+  Answer-number = λ κs a z z′ e e′. equal;
   acc-taken = λ κs a z z′ e e′. equal;
   all-within = λ κs a z z′ e e′. equal;
   gyr-taken = λ κs a z z′ e e′. equal;

@@ -1,6 +1,6 @@
 -- Both results are the definition's.
 use Rattle.determined.specs.Magnetic.{Magnetic}
-use Rattle.determined.proofs.OneResult.{equal, magnetic-call}
+use Rattle.determined.proofs.OneResult.{magnetic-call, equal}
 
 pub magnetic : Magnetic
 magnetic = record {

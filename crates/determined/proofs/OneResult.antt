@@ -4,19 +4,26 @@ use Prim.Native.Nat.{ℕ}
 use Rattle.limits.specs.Answers.{number, Told, told}
 use Rattle.limits.proofs.Answers.{number-tells}
 use Rattle.limits.specs.declared.answer.Answer.{Answer}
+use Rattle.tilt.specs.Gyr.{ToldGyr, after-gyr}
+use Rattle.tilt.specs.declared.gyr.AfterGyr.{AfterGyr}
 use Rattle.inertial.specs.Told.{told-of as inertial-told}
 use Rattle.inertial.specs.declared.types.Inertial.{Inertial}
 use Rattle.inertial.specs.declared.types.Updated.{Updated as InertialUpdated}
 use Rattle.magnetic.specs.Told.{told-of as magnetic-told}
 use Rattle.magnetic.specs.declared.types.Magnetic.{Magnetic}
 use Rattle.magnetic.specs.declared.types.Updated.{Updated as MagneticUpdated}
-use Rattle.vqf.specs.Whole.{told-of, ToldAll, all-told}
+use Rattle.vqf.specs.Told.{told-of, ToldAll, all-told}
 use Rattle.vqf.specs.declared.types.VQF.{VQF}
 use Rattle.vqf.specs.declared.types.Updated.{Updated}
 use Rattle.vqf.specs.declared.types.UpdatedAll.{UpdatedAll}
 
 pub equal : {A : Type 0} {d r s : A} → r ≡ d → s ≡ d → r ≡ s
 equal p q = p ∙ sym q
+
+pub gyr-call : {d : ToldGyr} {r s : AfterGyr} → after-gyr r ≡ d → after-gyr s ≡ d → r ≡ s
+gyr-call {d} {r} {s} p q =
+    let e : after-gyr r ≡ after-gyr s = p ∙ sym q in
+    λ i. record { answer = number-tells (r .answer) (s .answer) (λ j. e j .number) i; rest = e i .rest; quat = e i .quat }
 
 pub inertial-call : {d : Told Inertial} {r s : InertialUpdated} → inertial-told r ≡ d → inertial-told s ≡ d → r ≡ s
 inertial-call {d} {r} {s} p q =

@@ -18,6 +18,7 @@ use Rattle.filters.proofs.channel.filter_step.Reads as filter-step
 use Rattle.filters.proofs.channel.finite_channel.Reads as finite-channel
 use Rattle.filters.proofs.channel.first_number.Reads as first-number
 use Rattle.filters.proofs.coeffs.filter_coeffs.Reads as filter-coeffs
+use Rattle.filters.proofs.coeffs.finite_coeffs.Reads as finite-coeffs
 use Rattle.filters.proofs.coeffs.gain_from_tau.Reads as gain-from-tau
 
 pub record Filters : Type 0 where
@@ -39,4 +40,5 @@ pub record Filters : Type 0 where
   pub finite-channel : OneResult finite-channel.Learnt
   pub first-number : OneResult first-number.Learnt
   pub filter-coeffs : OneResult filter-coeffs.Learnt
+  pub finite-coeffs : OneResult finite-coeffs.Learnt
   pub gain-from-tau : OneResult gain-from-tau.Learnt

@@ -1,14 +1,6 @@
 -- Every public function of `inertial`: the inertial half.
 use Rattle.determined.specs.OneResult.{OneResult}
-use Rattle.inertial.proofs.acc.acc_rest.Reads as acc-rest
-use Rattle.inertial.proofs.acc.inclined.Reads as inclined
-use Rattle.inertial.proofs.gyr.broken.Reads as broken
-use Rattle.inertial.proofs.gyr.gyr_rest.Reads as gyr-rest
-use Rattle.inertial.proofs.gyr.predicted.Reads as predicted
-use Rattle.inertial.proofs.gyr.radians.Reads as radians
-use Rattle.inertial.proofs.gyr.squared_deviation.Reads as squared-deviation
 use Rattle.inertial.proofs.kalman.bias_step.Reads as bias-step
-use Rattle.inertial.proofs.setters.finite_coeffs.Reads as finite-coeffs
 use Rattle.inertial.proofs.setup.taken.Reads as taken
 use Rattle.inertial.proofs.types.Inertial.bias_estimate.Reads as Inertial-bias-estimate
 use Rattle.inertial.proofs.types.Inertial.new.Reads as Inertial-new
@@ -27,18 +19,9 @@ use Rattle.inertial.proofs.types.Inertial.update_gyr.Reads as Inertial-update-g
 use Rattle.inertial.proofs.types.Inertial.update_gyr_with_ts.Reads as Inertial-update-gyr-with-ts
 use Rattle.inertial.proofs.types.InertialParams.house.Reads as InertialParams-house
 use Rattle.inertial.proofs.types.InertialState.fresh.Reads as InertialState-fresh
-use Rattle.inertial.proofs.types.Rest.fresh.Reads as Rest-fresh
 
 pub record Inertial : Type 0 where
-  pub acc-rest : OneResult acc-rest.Learnt
-  pub inclined : OneResult inclined.Learnt
-  pub broken : OneResult broken.Learnt
-  pub gyr-rest : OneResult gyr-rest.Learnt
-  pub predicted : OneResult predicted.Learnt
-  pub radians : OneResult radians.Learnt
-  pub squared-deviation : OneResult squared-deviation.Learnt
   pub bias-step : OneResult bias-step.Learnt
-  pub finite-coeffs : OneResult finite-coeffs.Learnt
   pub taken : OneResult taken.Learnt
   pub Inertial-bias-estimate : OneResult Inertial-bias-estimate.Learnt
   pub Inertial-new : OneResult Inertial-new.Learnt
@@ -57,4 +40,3 @@ pub record Inertial : Type 0 where
   pub Inertial-update-gyr-with-ts : OneResult Inertial-update-gyr-with-ts.Learnt
   pub InertialParams-house : OneResult InertialParams-house.Learnt
   pub InertialState-fresh : OneResult InertialState-fresh.Learnt
-  pub Rest-fresh : OneResult Rest-fresh.Learnt

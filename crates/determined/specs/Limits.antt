@@ -1,5 +1,7 @@
 -- Every public function of `limits`: limits and tests.
 use Rattle.determined.specs.OneResult.{OneResult}
+use Rattle.limits.proofs.answer.Answer.digit.Reads as Answer-digit
+use Rattle.limits.proofs.answer.Answer.number.Reads as Answer-number
 use Rattle.limits.proofs.sample.acc_taken.Reads as acc-taken
 use Rattle.limits.proofs.sample.all_within.Reads as all-within
 use Rattle.limits.proofs.sample.gyr_taken.Reads as gyr-taken
@@ -23,6 +25,8 @@ use Rattle.limits.proofs.setting.threshold_taken.Reads as threshold-taken
 use Rattle.limits.proofs.setting.vertical_factor_taken.Reads as vertical-factor-taken
 
 pub record Limits : Type 0 where
+  pub Answer-digit : OneResult Answer-digit.Learnt
+  pub Answer-number : OneResult Answer-number.Learnt
   pub acc-taken : OneResult acc-taken.Learnt
   pub all-within : OneResult all-within.Learnt
   pub gyr-taken : OneResult gyr-taken.Learnt

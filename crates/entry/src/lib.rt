@@ -3,7 +3,7 @@
 ghost use mathlib.Core.Path.{_≡_};
 ghost use lib.Ieee.{binary64};
 ghost use Rattle.limits.specs.Answers.{number, told};
-ghost use Rattle.vqf.specs.Whole.{told-of};
+ghost use Rattle.vqf.specs.Told.{told-of};
 ghost use Rattle.vqf.specs.Update.{update-gyr, update-gyr-with-ts, update-acc, update-mag};
 use algebra::Vector;
 use limits::Answer;

@@ -14,10 +14,8 @@ use Rattle.floats.proofs.FromZero.{sum-from-zero}
 use Rattle.filters.specs.Channels.{fresh, filter-initial-state, filter-adapt-state-for-coeff-change, filter-step, average, filter-channel}
 use Rattle.filters.specs.Banks.{from, each, every, sample, channel, channels, adapted}
 use Rattle.filters.specs.Counts.{counts-from-zero, all-from-zero}
-use Rattle.filters.specs.declared.coeffs.Coeffs.{Coeffs}
-use Rattle.filters.specs.declared.channel.Phase.{Phase}
+use Rattle.filters.specs.Types.{Coeffs, Phase, Channel}
 use Rattle.filters.specs.declared.channel.Phase.the-variants.{Averaging, Running}
-use Rattle.filters.specs.declared.channel.Channel.{Channel}
 
 -- ---- one channel
 abbrev FromZero : Channel → Type 0

@@ -6,38 +6,30 @@ use lib.Ieee.{Float, Format, binary32, binary64, ofBits, sub, div, neg, lt, eq, 
 use Rattle.floats.specs.Notation.{zero, one}
 use Rattle.floats.specs.Decimals.{ten-thousand, ten-thousandth}
 use Rattle.floats.specs.Order.{Within}
-use Rattle.floats.specs.Intervals.{none, known, var, lit, neg·, sub·, div·, bound, inside, bounded}
+use Rattle.floats.specs.Intervals.{Known, none, known, var, lit, neg·, sub·, div·, bound, inside, bounded}
 use Rattle.numbers.specs.Constants.{𝟎, EXP-LIMIT}
 use Rattle.numbers.specs.Exponential.{exp}
-use Rattle.numbers.proofs.Narrowed.{exp-within}
+use Rattle.numbers.proofs.Ranges.{ranges}
 use Rattle.filters.specs.Coefficients.{gain-from-tau}
-use Rattle.filters.specs.Bounds.{Gain}
-
-module _ (w : Format) where
-  abbrev pub Interval : Float → Type 0
-  Interval ts = Within ts (ten-thousandth w) (one w)
-
-  abbrev Constant : Float → Type 0
-  Constant tau = Within tau (ten-thousandth w) (ten-thousand w)
-
-  abbrev pub GainConstant : Float → Type 0
-  GainConstant tau = Within tau (neg (ten-thousand w)) (zero w) ⊎ Constant tau
+use Rattle.filters.specs.Bounds.{Interval, GainConstant, Gain}
 
 pub none-or-all : (w : Format) → Gain w (zero w) × Gain w (one w)
 unfolding le ofBits
 none-or-all binary32 = ((tt, tt), (tt, tt))
 none-or-all binary64 = ((tt, tt), (tt, tt))
 
-module _ (tau ts : Float) where
-  exponent : (w : Format) → Interval w ts → Constant w tau → Within (div w (neg ts) tau) (neg EXP-LIMIT) 𝟎
-  unfolding bound inside neg ofBits
-  exponent binary32 v u = bounded binary32 (known ts (ten-thousandth binary32) (one binary32) v (known tau (ten-thousandth binary32) (ten-thousand binary32) u none)) (div· (neg· (var 0)) (var 1)) (neg EXP-LIMIT) 𝟎 tt
-  exponent binary64 v u = bounded binary64 (known ts (ten-thousandth binary64) (one binary64) v (known tau (ten-thousandth binary64) (ten-thousand binary64) u none)) (div· (neg· (var 0)) (var 1)) (neg EXP-LIMIT) 𝟎 tt
+abbrev at : (w : Format) (tau ts : Float) → Interval w ts → Within tau (ten-thousandth w) (ten-thousand w) → Known
+at w tau ts v u = known ts (ten-thousandth w) (one w) v (known tau (ten-thousandth w) (ten-thousand w) u none)
 
-rest : (w : Format) (e : Float) → Gain w e → Gain w (sub w (one w) e)
-unfolding bound inside ofBits
-rest binary32 e u = bounded binary32 (known e (zero binary32) (one binary32) u none) (sub· (lit (one binary32)) (var 0)) (zero binary32) (one binary32) tt
-rest binary64 e u = bounded binary64 (known e (zero binary64) (one binary64) u none) (sub· (lit (one binary64)) (var 0)) (zero binary64) (one binary64) tt
+-- ---- what the prover computes in each format
+record Computed (w : Format) : Type 0 where
+  exponent : (tau ts : Float) (v : Interval w ts) (u : Within tau (ten-thousandth w) (ten-thousand w)) → T (inside (bound w (at w tau ts v u) (div· (neg· (var 0)) (var 1))) (neg EXP-LIMIT) 𝟎)
+  rest : (e : Float) (u : Gain w e) → T (inside (bound w (known e (zero w) (one w) u none) (sub· (lit (one w)) (var 0))) (zero w) (one w))
+
+computed : (w : Format) → Computed w
+unfolding bound inside neg ofBits
+computed binary32 = record { exponent = λ tau ts v u. tt; rest = λ e u. tt }
+computed binary64 = record { exponent = λ tau ts v u. tt; rest = λ e u. tt }
 
 -- nothing, all, or x where neither test passes
 chosen : (w : Format) (a b : Bool) (x : Float) → T (a || b) ⊎ Gain w x → Gain w (cond a (zero w) (cond b (one w) x))
@@ -52,4 +44,6 @@ gain-within w tau ts v u = chosen w (lt tau (zero w)) (eq tau (zero w)) _ (by-ki
   where
     by-kind : GainConstant w tau → T (le tau (zero w)) ⊎ Gain w (sub w (one w) (exp w (div w (neg ts) tau)))
     by-kind (inl u) = inl (u .1)
-    by-kind (inr u) = inr (rest w _ (exp-within w _ (exponent tau ts w v u)))
+    by-kind (inr u) =
+        let e = ranges w .exp .within _ (bounded w (at w tau ts v u) (div· (neg· (var 0)) (var 1)) (neg EXP-LIMIT) 𝟎 (computed w .exponent tau ts v u)) in
+        inr (bounded w (known _ (zero w) (one w) e none) (sub· (lit (one w)) (var 0)) (zero w) (one w) (computed w .rest _ e))

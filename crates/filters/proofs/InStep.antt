@@ -5,8 +5,7 @@ use lib.Ieee.{Float, Format, binary64, add, mul, le}
 use Rattle.floats.specs.Notation.{one, narrow}
 use Rattle.filters.specs.Channels.{averaging, filter-initial-state, filter-adapt-state-for-coeff-change, filter-step, average, filter-channel}
 use Rattle.filters.specs.InStep.{Alike, InStep, StayInStep}
-use Rattle.filters.specs.declared.coeffs.Coeffs.{Coeffs}
-use Rattle.filters.specs.declared.channel.Phase.{Phase}
+use Rattle.filters.specs.Types.{Coeffs, Phase}
 use Rattle.filters.specs.declared.channel.Phase.the-variants.{Averaging, Running}
 
 module _ (w : Format) (tau ts : Float) (k : Coeffs) (x y : Float) where

@@ -1,3 +1,4 @@
+pub mod Types
 pub mod Coefficients
 pub mod Channels
 pub mod Banks

@@ -42,6 +42,7 @@ pub fn filter_vec2(x: [f64; 2], tau: f64, ts: f64, coeffs: Coeffs, c: [Channel; 
     Filtered2 { y, channels }
 }
 
+// A vector, one channel for each component.
 pub fn filter_vec3(x: Vector, tau: f64, ts: f64, coeffs: Coeffs, c: [Channel; 3]) -> Filtered3
     ensures { λ r. ⌜ r ≡ filter-vec3 binary64 x tau ts coeffs c ⌝ }
 {
@@ -60,6 +61,7 @@ pub fn filter_vec3(x: Vector, tau: f64, ts: f64, coeffs: Coeffs, c: [Channel; 3]
     Filtered3 { y, channels }
 }
 
+// Nine numbers, as of a matrix.
 pub fn filter_vec9(x: [f64; 9], tau: f64, ts: f64, coeffs: Coeffs, c: [Channel; 9]) -> Filtered9
     ensures { λ r. ⌜ r ≡ filter-vec9 binary64 x tau ts coeffs c ⌝ }
 {
@@ -90,6 +92,7 @@ pub fn adapt2(last_y: [f64; 2], old: Coeffs, new: Coeffs, c: [Channel; 2]) -> [C
     channels
 }
 
+// After an answer that is a vector.
 pub fn adapt3(last_y: Vector, old: Coeffs, new: Coeffs, c: [Channel; 3]) -> [Channel; 3]
     ensures { λ r. ⌜ r ≡ adapt3 «last_y» old new c ⌝ }
 {
@@ -104,6 +107,7 @@ pub fn adapt3(last_y: Vector, old: Coeffs, new: Coeffs, c: [Channel; 3]) -> [Cha
     channels
 }
 
+// After nine answers.
 pub fn adapt9(last_y: [f64; 9], old: Coeffs, new: Coeffs, c: [Channel; 9]) -> [Channel; 9]
     ensures { λ r. ⌜ r ≡ adapt9 «last_y» old new c ⌝ }
 {
@@ -130,6 +134,7 @@ pub fn first_numbers2(c: [Channel; 2]) -> [f64; 2]
     numbers
 }
 
+// Of nine channels.
 pub fn first_numbers9(c: [Channel; 9]) -> [f64; 9]
     ensures { λ r. ⌜ r ≡ first-numbers binary64 9 c ⌝ }
 {
@@ -155,6 +160,7 @@ pub fn finite_channels2(c: [Channel; 2]) -> bool
     all
 }
 
+// Of three channels.
 pub fn finite_channels3(c: [Channel; 3]) -> bool
     ensures { λ r. ⌜ r ≡ finite-channels 3 c ⌝ }
 {
@@ -167,6 +173,7 @@ pub fn finite_channels3(c: [Channel; 3]) -> bool
     all
 }
 
+// Of nine channels.
 pub fn finite_channels9(c: [Channel; 9]) -> bool
     ensures { λ r. ⌜ r ≡ finite-channels 9 c ⌝ }
 {

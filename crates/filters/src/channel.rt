@@ -113,6 +113,7 @@ pub fn first_number(channel: Channel) -> f64
     }
 }
 
+// Whether the two numbers that the channel stores are finite.
 pub fn finite_channel(channel: Channel) -> bool
     ensures { λ r. ⌜ r ≡ finite-channel channel ⌝ }
 {

@@ -1,8 +1,7 @@
 ghost use mathlib.Core.Path.{_≡_};
 ghost use lib.Ieee.{binary64};
-ghost use Rattle.filters.specs.Coefficients.{filter-coeffs, gain-from-tau};
-
-const PI: f64 = 3.141592653589793;
+ghost use Rattle.filters.specs.Coefficients.{filter-coeffs, finite-coeffs, gain-from-tau};
+use floats::PI;
 
 const SQRT_2: f64 = 1.4142135623730951;
 
@@ -30,6 +29,17 @@ pub fn filter_coeffs(tau: f64, ts: f64) -> Coeffs
         a1: 2.0 * (c * c - 1.0) / d,
         a2: (1.0 - SQRT_2 * c + c * c) / d,
     }
+}
+
+// Whether all five are finite.
+pub fn finite_coeffs(k: Coeffs) -> bool
+    ensures { λ r. ⌜ r ≡ finite-coeffs k ⌝ }
+{
+    floats::finite(k.b0)
+        & floats::finite(k.b1)
+        & floats::finite(k.b2)
+        & floats::finite(k.a1)
+        & floats::finite(k.a2)
 }
 
 // The gain of a filter of first order: 0 for a tau below 0, 1 for 0.

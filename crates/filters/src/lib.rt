@@ -22,4 +22,5 @@ pub use crate::channel::Channel;
 pub use crate::channel::Phase;
 pub use crate::coeffs::Coeffs;
 pub use crate::coeffs::filter_coeffs;
+pub use crate::coeffs::finite_coeffs;
 pub use crate::coeffs::gain_from_tau;

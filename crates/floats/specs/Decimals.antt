@@ -49,6 +49,9 @@ million = constant 0x4974_2400 0x412e_8480_0000_0000
 abbrev pub two-million : Format → Float
 two-million = constant 0x49f4_2400 0x413e_8480_0000_0000
 
+abbrev pub half-pi : Format → Float
+half-pi = constant 0x3fc9_0fdb 0x3ff9_21fb_5444_2d18
+
 abbrev pub one-and-a-half : Format → Float
 one-and-a-half = constant 0x3fc0_0000 0x3ff8_0000_0000_0000
 
@@ -105,6 +108,7 @@ rows =
     ∷ (ten-thousand, 10000, 1)
     ∷ (million, 1000000, 1)
     ∷ (two-million, 2000000, 1)
+    ∷ (half-pi, 157079632679489661923, 10 ^ 20)
     ∷ (one-and-a-half, 15, 10)
     ∷ (one-point-six, 16, 10)
     ∷ (tenth, 1, 10)

@@ -5,7 +5,8 @@ use native.Mathlib.Omega.{arith}
 use mathlib.Core.Bool.{Bool, true, false, not, _&&_, _||_, Bool·beq}
 use lib.IntN.{pos}
 use lib.Dec.{T, nltb→le}
-use lib.Ieee.{Float, nan, inf, fin, up, down, neg, below, level, lt, eq, le}
+use lib.Ieee.{Float, nan, inf, fin, Format, binary32, binary64, up, down, neg, below, level, lt, eq, le}
+use lib.Ieee.Fits.{and-l, and-r}
 use lib.Ieee.Scale.{finite}
 use lib.Ieee.Positive.{den, den-pos}
 use Rattle.floats.specs.Fractions.{pl, mi, plus, less, or-l, lt→signed, le→signed, signed→le, le→ord, ord→le, ord-trans}
@@ -158,6 +159,20 @@ within-finite (inf t) (fin s m e) nan p q w = absurd q
 within-finite (inf t) (fin s m e) (inf u) p q w = absurd q
 within-finite (inf t) (fin s m e) (fin u l g) p q w = absurd (inf-not t (w .0) (w .1))
 within-finite (fin t n d) lo hi p q w = tt
+
+-- a constant of each format, and what lies between two such
+abbrev pub finite-each : (Format → Float) → Bool
+finite-each c = finite (c binary32) && finite (c binary64)
+
+pub each-finite : (c : Format → Float) → T (finite-each c) → (w : Format) → T (finite (c w))
+each-finite c h binary32 = and-l (finite (c binary32)) (finite (c binary64)) h
+each-finite c h binary64 = and-r (finite (c binary32)) (finite (c binary64)) h
+
+pub between-finite : (lo hi : Format → Float) → T (finite-each lo && finite-each hi) → (w : Format) (x : Float) → Within x (lo w) (hi w) → T (finite x)
+between-finite lo hi h w x =
+    let a = finite-each lo in
+    let b = finite-each hi in
+    within-finite x (lo w) (hi w) (each-finite lo (and-l a b h) w) (each-finite hi (and-r a b h) w)
 
 pub widen : (x lo hi lo' hi' : Float) → T (le lo' lo) → T (le hi hi') → Within x lo hi → Within x lo' hi'
 widen x lo hi lo' hi' h k w = (le-tr lo' lo x h (w .0), le-tr x hi hi' (w .1) k)

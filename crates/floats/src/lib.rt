@@ -4,6 +4,10 @@ ghost use lib.Ieee.{binary64, ofBits, toBits};
 ghost use lib.Ieee.Scale.{finite};
 ghost use Rattle.floats.specs.Definitions.{magnitude, clamp, larger, smaller};
 
+// The half turn in radians, rounded.
+pub const PI: f64 = 3.141592653589793;
+
+// x without its sign.
 pub fn magnitude(x: f64) -> f64
     ensures { λ r. ⌜ r ≡ magnitude x ⌝ }
 {
@@ -47,6 +51,7 @@ pub fn larger(x: f64, y: f64) -> f64
     }
 }
 
+// As `larger`: a NaN gives way, and of two that are equal the first is kept.
 pub fn smaller(x: f64, y: f64) -> f64
     ensures { λ r. ⌜ r ≡ smaller x y ⌝ }
 {

@@ -19,7 +19,7 @@ use Rattle.image.specs.Marks as marks
 use Rattle.image.specs.Pack as to
 use Rattle.image.specs.Unpack as of
 use Rattle.image.specs.Image.{unpack}
-use Rattle.image.specs.Inverse.{Whole, Inverse}
+use Rattle.image.specs.Inverse.{FullBanks, Inverse}
 
 -- ---- a flag and a channel are read as they were written
 on-flag : (b : Bool) → on (flag b) ≡ b
@@ -64,7 +64,7 @@ unfolding flag on ofBits eq ne
 smoothed Absent = refl
 smoothed (Present k) = refl
 
-read-pack : (f : VQF) → Whole f → of.read (to.pack f) ≡ f
+read-pack : (f : VQF) → FullBanks f → of.read (to.pack f) ≡ f
 unfolding to.pack to.all-params to.all-coeffs to.all-inclination to.all-bias to.all-rest to.all-magnetic-state to.inertial-params to.magnetic-params to.inertial-coeffs to.magnetic-coeffs to.inclination to.bias to.rest to.magnetic-state to.channels2 to.channels3 to.channels9 of.inertial-params of.magnetic-params of.inertial-coeffs of.magnetic-coeffs of.inclination of.bias of.rest of.magnetic-state
 read-pack f h = λ j. record {
   inertial = record {

@@ -9,6 +9,7 @@ use lib.Seq.{take-suc, length-take-le}
 use lib.Ieee.{Float, nan}
 use Rattle.vqf.specs.declared.types.VQF.{VQF}
 use Rattle.image.specs.Put.{put}
+use Rattle.image.specs.Image.{SIZE}
 use Rattle.image.specs.Pack.{all-params, all-coeffs, all-inclination, all-bias, all-rest, all-magnetic-state, inertial-params, magnetic-params, inertial-coeffs, magnetic-coeffs, inclination, bias, rest, magnetic-state, channels2, channels3, channels9, pack}
 
 pub length-put : (xs l : List Float) (n : ℕ) → length (put xs l n) ≡ length l
@@ -66,7 +67,7 @@ put-more xs l n i h =
     ∙ ap (λ (t : List Float). put t l n) (sym (take-suc xs i nan h))
 
 -- the six parts one after the other, over a list of the right length, are the whole
-module _ (f : VQF) (l : List Float) (h : length l ≡ 170) {l₁ l₂ l₃ l₄ l₅ l₆ : List Float} where
+module _ (f : VQF) (l : List Float) (h : length l ≡ SIZE) {l₁ l₂ l₃ l₄ l₅ l₆ : List Float} where
   pub put-pack :
       l₁ ≡ put (all-params (f .inertial .params) (f .magnetic .params)) l 0
       → l₂ ≡ put (all-coeffs (f .inertial .coeffs) (f .magnetic .coeffs)) l₁ 25

@@ -7,7 +7,7 @@ use Rattle.image.specs.Pack.{pack}
 use Rattle.image.specs.Image.{unpack}
 
 -- each bank has its length
-pub record Whole (f : VQF) : Type 0 where
+pub record FullBanks (f : VQF) : Type 0 where
   pub acc-lp : length (f .inertial .state .inclination .«acc_lp_state») ≡ 3
   pub rlp : length (f .inertial .state .bias .«motion_bias_est_rlp_state») ≡ 9
   pub bias-lp : length (f .inertial .state .bias .«motion_bias_est_bias_lp_state») ≡ 2
@@ -16,4 +16,4 @@ pub record Whole (f : VQF) : Type 0 where
   pub norm-dip-lp : length (f .magnetic .state .field .«mag_norm_dip_lp_state») ≡ 2
 
 abbrev pub Inverse : Type 0
-Inverse = (f : VQF) → Whole f → unpack (pack f) ≡ f
+Inverse = (f : VQF) → FullBanks f → unpack (pack f) ≡ f

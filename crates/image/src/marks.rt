@@ -7,18 +7,21 @@ use filters::Phase;
 // A channel's phase, and its two numbers.
 pub struct Mark(pub f64, pub f64, pub f64);
 
+// 1 for yes, 0 for no.
 pub fn flag(b: bool) -> f64
     ensures { λ r. ⌜ r ≡ flag b ⌝ }
 {
     if b { 1.0 } else { 0.0 }
 }
 
+// Anything but 0 is yes.
 pub fn on(x: f64) -> bool
     ensures { λ r. ⌜ r ≡ on x ⌝ }
 {
     x != 0.0
 }
 
+// A channel as its mark and its two numbers.
 pub fn marked(c: Channel) -> Mark
     ensures { λ r. ⌜ r ≡ marked c ⌝ }
 {
@@ -29,6 +32,7 @@ pub fn marked(c: Channel) -> Mark
     }
 }
 
+// The channel of a mark and two numbers.
 pub fn channel(mark: f64, first: f64, second: f64) -> Channel
     ensures { λ r. ⌜ r ≡ channel mark first second ⌝ }
 {

@@ -4,19 +4,20 @@ ghost use Prim.Native.Nat.{_+_, _≤_};
 ghost use lib.ListN.{length};
 ghost use Rattle.image.specs.Put.{put};
 ghost use Rattle.image.specs.Pack.{channels2, channels3, channels9, inertial-params, magnetic-params, inertial-coeffs, magnetic-coeffs, inclination, bias, rest, magnetic-state, all-params, all-coeffs, all-inclination, all-bias, all-rest, all-magnetic-state, pack};
-ghost use Rattle.image.specs.Image.{fits, packed};
+ghost use Rattle.image.specs.Image.{SIZE, fits, packed};
+use crate::SIZE;
 use crate::marks::flag;
 use crate::marks::marked;
 use filters::Channel;
 use inertial::InertialCoefficients;
 use inertial::InertialParams;
 use inertial::types::Bias;
-use inertial::types::Inclination;
-use inertial::types::Rest;
 use magnetic::MagneticCoefficients;
 use magnetic::MagneticParams;
 use magnetic::MagneticState;
 use magnetic::types::Smoothing;
+use tilt::Inclination;
+use tilt::Rest;
 use vqf::VQF;
 
 fn channels2(c: [Channel; 2]) -> [f64; 6]
@@ -258,7 +259,7 @@ fn put(image: &mut [f64], at: usize, xs: &[f64])
 }
 
 fn put_params(image: &mut [f64], i: InertialParams, m: MagneticParams)
-    requires { ⌜ length (now image) ≡ 170 ⌝ }
+    requires { ⌜ length (now image) ≡ SIZE ⌝ }
     ensures { λ _. ⌜ now (image .exit) ≡ put (all-params i m) (now (image .entry)) 0 ⌝ }
 {
     let inertial = inertial_params(i);
@@ -268,7 +269,7 @@ fn put_params(image: &mut [f64], i: InertialParams, m: MagneticParams)
 }
 
 fn put_coeffs(image: &mut [f64], i: InertialCoefficients, m: MagneticCoefficients)
-    requires { ⌜ length (now image) ≡ 170 ⌝ }
+    requires { ⌜ length (now image) ≡ SIZE ⌝ }
     ensures { λ _. ⌜ now (image .exit) ≡ put (all-coeffs i m) (now (image .entry)) 25 ⌝ }
 {
     let inertial = inertial_coeffs(i);
@@ -278,7 +279,7 @@ fn put_coeffs(image: &mut [f64], i: InertialCoefficients, m: MagneticCoefficient
 }
 
 fn put_inclination(image: &mut [f64], s: Inclination)
-    requires { ⌜ length (now image) ≡ 170 ⌝ }
+    requires { ⌜ length (now image) ≡ SIZE ⌝ }
     ensures { λ _. ⌜ now (image .exit) ≡ put (all-inclination s) (now (image .entry)) 56 ⌝ }
 {
     let numbers = inclination(s);
@@ -289,7 +290,7 @@ fn put_inclination(image: &mut [f64], s: Inclination)
 }
 
 fn put_bias(image: &mut [f64], s: Bias)
-    requires { ⌜ length (now image) ≡ 170 ⌝ }
+    requires { ⌜ length (now image) ≡ SIZE ⌝ }
     ensures { λ _. ⌜ now (image .exit) ≡ put (all-bias s) (now (image .entry)) 77 ⌝ }
 {
     let numbers = bias(s);
@@ -303,7 +304,7 @@ fn put_bias(image: &mut [f64], s: Bias)
 }
 
 fn put_rest(image: &mut [f64], s: Rest)
-    requires { ⌜ length (now image) ≡ 170 ⌝ }
+    requires { ⌜ length (now image) ≡ SIZE ⌝ }
     ensures { λ _. ⌜ now (image .exit) ≡ put (all-rest s) (now (image .entry)) 122 ⌝ }
 {
     let numbers = rest(s);
@@ -317,7 +318,7 @@ fn put_rest(image: &mut [f64], s: Rest)
 }
 
 fn put_magnetic_state(image: &mut [f64], s: MagneticState)
-    requires { ⌜ length (now image) ≡ 170 ⌝ }
+    requires { ⌜ length (now image) ≡ SIZE ⌝ }
     ensures { λ _. ⌜ now (image .exit) ≡ put (all-magnetic-state s) (now (image .entry)) 150 ⌝ }
 {
     let numbers = magnetic_state(s);
@@ -329,7 +330,7 @@ fn put_magnetic_state(image: &mut [f64], s: MagneticState)
 }
 
 fn put_all(image: &mut [f64], f: VQF)
-    requires { ⌜ length (now image) ≡ 170 ⌝ }
+    requires { ⌜ length (now image) ≡ SIZE ⌝ }
     ensures { λ _. ⌜ now (image .exit) ≡ pack f ⌝ }
 {
     let i = f.inertial;
@@ -351,11 +352,11 @@ fn put_all(image: &mut [f64], f: VQF)
     put_magnetic_state(image, m_state);
 }
 
-// Writes the filter, where the image has 170 numbers, and says whether it has.
+// Writes the filter, where the image has SIZE numbers, and says whether it has.
 pub fn pack(image: &mut [f64], f: VQF) -> bool
     ensures { λ r. ⌜ (r ≡ fits (now (image .entry))) × (now (image .exit) ≡ packed (now (image .entry)) f) ⌝ }
 {
-    if image.len() == 170 {
+    if image.len() == SIZE {
         put_all(image, f);
         true
     } else {

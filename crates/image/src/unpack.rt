@@ -3,7 +3,9 @@ ghost use mathlib.Core.Path.{_≡_};
 ghost use Prim.Native.Nat.{_+_, _≤_};
 ghost use lib.ListN.{length};
 ghost use Rattle.image.specs.Unpack.{vector, quaternion, matrix, coeffs, smoothing, channel-at, channels2, channels3, channels9, inertial-params, magnetic-params, read-params, inertial-coeffs, magnetic-coeffs, inclination, bias, rest, magnetic-state, inertial, magnetic};
-ghost use Rattle.image.specs.Image.{unpack, params};
+ghost use Rattle.image.specs.Image.{SIZE, SETTINGS, unpack, params};
+use crate::SETTINGS;
+use crate::SIZE;
 use crate::marks::channel;
 use crate::marks::on;
 use algebra::Matrix;
@@ -18,10 +20,6 @@ use inertial::InertialState;
 use inertial::types::Bias;
 use inertial::types::BiasCoefficients;
 use inertial::types::BiasParams;
-use inertial::types::Deviations;
-use inertial::types::Inclination;
-use inertial::types::Rest;
-use inertial::types::RestParams;
 use magnetic::Magnetic;
 use magnetic::MagneticCoefficients;
 use magnetic::MagneticParams;
@@ -30,6 +28,10 @@ use magnetic::types::Field;
 use magnetic::types::Heading;
 use magnetic::types::NormDip;
 use magnetic::types::Smoothing;
+use tilt::Deviations;
+use tilt::Inclination;
+use tilt::Rest;
+use tilt::RestParams;
 use vqf::Params;
 use vqf::VQF;
 
@@ -131,7 +133,7 @@ fn channels9(s: &[f64], at: usize) -> [Channel; 9]
 }
 
 fn inertial_params(s: &[f64]) -> InertialParams
-    requires { ⌜ 25 ≤ length (now s) ⌝ }
+    requires { ⌜ SETTINGS ≤ length (now s) ⌝ }
     ensures { λ r. ⌜ r ≡ inertial-params (now (s .entry)) ⌝ }
 {
     let rest = RestParams {
@@ -159,7 +161,7 @@ fn inertial_params(s: &[f64]) -> InertialParams
 }
 
 fn magnetic_params(s: &[f64]) -> MagneticParams
-    requires { ⌜ 25 ≤ length (now s) ⌝ }
+    requires { ⌜ SETTINGS ≤ length (now s) ⌝ }
     ensures { λ r. ⌜ r ≡ magnetic-params (now (s .entry)) ⌝ }
 {
     MagneticParams {
@@ -178,7 +180,7 @@ fn magnetic_params(s: &[f64]) -> MagneticParams
 }
 
 fn inertial_coeffs(s: &[f64]) -> InertialCoefficients
-    requires { ⌜ 170 ≤ length (now s) ⌝ }
+    requires { ⌜ SIZE ≤ length (now s) ⌝ }
     ensures { λ r. ⌜ r ≡ inertial-coeffs (now (s .entry)) ⌝ }
 {
     let acc_lp = coeffs(s, 27);
@@ -202,7 +204,7 @@ fn inertial_coeffs(s: &[f64]) -> InertialCoefficients
 }
 
 fn magnetic_coeffs(s: &[f64]) -> MagneticCoefficients
-    requires { ⌜ 170 ≤ length (now s) ⌝ }
+    requires { ⌜ SIZE ≤ length (now s) ⌝ }
     ensures { λ r. ⌜ r ≡ magnetic-coeffs (now (s .entry)) ⌝ }
 {
     let mag_norm_dip_lp = smoothing(s, 50);
@@ -215,7 +217,7 @@ fn magnetic_coeffs(s: &[f64]) -> MagneticCoefficients
 }
 
 fn inclination(s: &[f64]) -> Inclination
-    requires { ⌜ 170 ≤ length (now s) ⌝ }
+    requires { ⌜ SIZE ≤ length (now s) ⌝ }
     ensures { λ r. ⌜ r ≡ inclination (now (s .entry)) ⌝ }
 {
     let gyr_quat = quaternion(s, 56);
@@ -232,7 +234,7 @@ fn inclination(s: &[f64]) -> Inclination
 }
 
 fn bias(s: &[f64]) -> Bias
-    requires { ⌜ 170 ≤ length (now s) ⌝ }
+    requires { ⌜ SIZE ≤ length (now s) ⌝ }
     ensures { λ r. ⌜ r ≡ bias (now (s .entry)) ⌝ }
 {
     let bias = vector(s, 77);
@@ -248,7 +250,7 @@ fn bias(s: &[f64]) -> Bias
 }
 
 fn rest(s: &[f64]) -> Rest
-    requires { ⌜ 170 ≤ length (now s) ⌝ }
+    requires { ⌜ SIZE ≤ length (now s) ⌝ }
     ensures { λ r. ⌜ r ≡ rest (now (s .entry)) ⌝ }
 {
     let rest_last_squared_deviations = Deviations(s[123], s[124]);
@@ -268,7 +270,7 @@ fn rest(s: &[f64]) -> Rest
 }
 
 fn magnetic_state(s: &[f64]) -> MagneticState
-    requires { ⌜ 170 ≤ length (now s) ⌝ }
+    requires { ⌜ SIZE ≤ length (now s) ⌝ }
     ensures { λ r. ⌜ r ≡ magnetic-state (now (s .entry)) ⌝ }
 {
     let heading = Heading {
@@ -295,7 +297,7 @@ fn magnetic_state(s: &[f64]) -> MagneticState
 }
 
 fn read_params(s: &[f64]) -> Params
-    requires { ⌜ 25 ≤ length (now s) ⌝ }
+    requires { ⌜ SETTINGS ≤ length (now s) ⌝ }
     ensures { λ r. ⌜ r ≡ read-params (now (s .entry)) ⌝ }
 {
     let inertial = inertial_params(s);
@@ -304,7 +306,7 @@ fn read_params(s: &[f64]) -> Params
 }
 
 fn read_inertial(s: &[f64]) -> Inertial
-    requires { ⌜ 170 ≤ length (now s) ⌝ }
+    requires { ⌜ SIZE ≤ length (now s) ⌝ }
     ensures { λ r. ⌜ r ≡ inertial (now (s .entry)) ⌝ }
 {
     let params = inertial_params(s);
@@ -325,7 +327,7 @@ fn read_inertial(s: &[f64]) -> Inertial
 }
 
 fn read_magnetic(s: &[f64]) -> Magnetic
-    requires { ⌜ 170 ≤ length (now s) ⌝ }
+    requires { ⌜ SIZE ≤ length (now s) ⌝ }
     ensures { λ r. ⌜ r ≡ magnetic (now (s .entry)) ⌝ }
 {
     let params = magnetic_params(s);
@@ -338,11 +340,11 @@ fn read_magnetic(s: &[f64]) -> Magnetic
     }
 }
 
-// The filter of an image of 170 numbers; of any other, the fresh house filter.
+// The filter of an image of SIZE numbers; of any other, the fresh house filter.
 pub fn unpack(image: &[f64]) -> VQF
     ensures { λ r. ⌜ r ≡ unpack (now (image .entry)) ⌝ }
 {
-    if image.len() == 170 {
+    if image.len() == SIZE {
         let inertial = read_inertial(image);
         let magnetic = read_magnetic(image);
         VQF { inertial, magnetic }
@@ -351,12 +353,12 @@ pub fn unpack(image: &[f64]) -> VQF
     }
 }
 
-// The settings that 25 numbers give, in the order in which an image has them; any other number of
+// The settings that SETTINGS numbers give, in the order in which an image has them; any other number of
 // them gives the house settings.
 pub fn params(settings: &[f64]) -> Params
     ensures { λ r. ⌜ r ≡ params (now (settings .entry)) ⌝ }
 {
-    if settings.len() == 25 {
+    if settings.len() == SETTINGS {
         read_params(settings)
     } else {
         Params::house()

@@ -1,8 +1,8 @@
 -- Each call keeps the bias within the clip: a step clips it last and stores it where it is finite, and the setter takes nothing beyond. No call changes the clip.
-use mathlib.Core.Bool.{Bool, true, false, not, cond, _&&_, _||_, Bool·beq}
-use mathlib.Core.List.{List, [], _∷_}
+use mathlib.Core.Bool.{Bool, true, false, not, cond, _||_, Bool·beq}
+use mathlib.Core.List.{List}
 use lib.Dec.{T}
-use lib.Ieee.{Float, Format, neg, lt, le, eq}
+use lib.Ieee.{Float, Format, neg, lt, le}
 use lib.Ieee.Scale as scale
 use Rattle.floats.specs.Notation.{zero}
 use Rattle.floats.specs.Tests.{both, keeps}
@@ -16,26 +16,19 @@ use Rattle.algebra.specs.declared.vector.Vector.{Vector}
 use Rattle.algebra.specs.declared.matrix.Matrix.{Matrix}
 use Rattle.algebra.specs.declared.matrix.Inverse.{Inverse}
 use Rattle.algebra.specs.declared.matrix.Inverse.the-variants as inverse
-use Rattle.limits.specs.Answers.{Told}
-use Rattle.limits.specs.Limits.{all-within, gyr-taken, acc-taken, interval-taken, zero-sample, tau-taken, threshold-taken}
-use Rattle.inertial.specs.Gyr as gyr
+use Rattle.limits.specs.Limits.{all-within, threshold-taken}
+use Rattle.tilt.specs.Scalars.{radians}
 use Rattle.inertial.specs.Kalman.{finite-bias, updated-bias, rotation, smoothed, measured, widened, innovation, by-inverse, estimated, bias-step}
-use Rattle.inertial.specs.Acc as acc
-use Rattle.inertial.specs.Setup.{taken, rest-params-taken, fresh-state, new}
+use Rattle.inertial.specs.Setup.{taken, fresh-state, new}
 use Rattle.inertial.specs.Setters as setters
-use Rattle.inertial.specs.Calls.{Call, update-gyr, update-acc, update-gyr-with-ts, set-tau-acc, set-motion-bias-est-enabled, set-rest-bias-est-enabled, set-mag-dist-rejection-enabled, set-rest-detection-thresholds, set-bias-estimate, reset-state, reply, run}
-use Rattle.inertial.specs.Answers.{gyr-rest-of, quat-of, acc-rest-of, inclination-of, bias-of}
-use Rattle.inertial.specs.declared.types.Bias.{Bias}
-use Rattle.inertial.specs.declared.types.Inertial.{Inertial}
-use Rattle.inertial.specs.declared.types.InertialParams.{InertialParams}
-use Rattle.inertial.specs.declared.kalman.Measurement.{Measurement}
-use Rattle.inertial.specs.declared.kalman.Smooth.{Smooth}
-use Rattle.inertial.specs.declared.kalman.KalmanStep.{KalmanStep}
+use Rattle.inertial.specs.HowFar.{AllWithin}
+use Rattle.inertial.specs.Calls.{Call, run}
+use Rattle.inertial.specs.Answers.{acc-rest-of, inclination-of, bias-of}
+use Rattle.inertial.specs.Types.{Bias, Inertial, InertialParams, Measurement, Smooth, KalmanStep, TriedBias}
 use Rattle.inertial.specs.declared.kalman.KalmanStep.the-variants.{TooSmall, NotFinite, Next}
-use Rattle.inertial.specs.declared.kalman.TriedBias.{TriedBias}
-use Rattle.inertial.specs.declared.setters.Sigma.{Sigma}
+use Rattle.inertial.proofs.Construction.{opened}
 use Rattle.inertial.proofs.BiasLimit.{limit-within}
-use Rattle.inertial.proofs.Tested.{fits}
+use Rattle.inertial.proofs.Invariants.{Invariant, reached}
 
 -- ---- what is clipped to ±c, and the origin
 module _ (c : Float) (h : T (le nought c)) where
@@ -45,7 +38,7 @@ module _ (c : Float) (h : T (le nought c)) where
   around : T (le (neg c) c)
   around = le-tr (neg c) nought c below h
 
-  clipped-within : (x : Float) → T (scale.finite (clipped (neg c) c x)) → Within (clipped (neg c) c x) (neg c) c
+  clipped-within : (x : Float) → T (scale.finite (clipped x (neg c) c)) → Within (clipped x (neg c) c) (neg c) c
   unfolding clipped
   clipped-within x = go (lt x (neg c)) (lt c x) (λ n. nlt→le x (neg c) n (ends .0)) (nlt→le c x (ends .1))
     where
@@ -58,7 +51,7 @@ module _ (c : Float) (h : T (le nought c)) where
       go false true p q t = (around, le-rf c (ends .1))
       go false false p q t = let n = finite-number x t in (p n tt, q n tt)
 
-  clip-within : (v : Vector) → T (finite (clip (neg c) c v)) → T (all-within c (clip (neg c) c v))
+  clip-within : (v : Vector) → T (finite (clip v (neg c) c)) → T (all-within c (clip v (neg c) c))
   unfolding finite clip all-within
   clip-within v t = let u = simp both at t in simp both ((clipped-within (v .0) (u .0 .0), clipped-within (v .1) (u .0 .1)), clipped-within (v .2) (u .1))
 
@@ -93,30 +86,26 @@ module _ (w : Format) where
 
   -- ---- the calls
   abbrev pub Held : Inertial → Type 0
-  Held f = T (threshold-taken w (f .params .rest .«bias_clip»)) × T (all-within (gyr.radians w (f .params .rest .«bias_clip»)) (f .state .bias .bias))
+  Held f = T (threshold-taken w (f .params .rest .«bias_clip»)) × T (all-within (radians w (f .params .rest .«bias_clip»)) (f .state .bias .bias))
 
-  abbrev Left : Told Inertial → Type 0
-  Left t = Held (t .left)
+  pub bias-within : (f : Inertial) → Held f → AllWithin (radians w (f .params .rest .«bias_clip»)) (f .state .bias .bias)
+  unfolding all-within
+  bias-within f h = let b = h .1 in let u = simp both at b in (u .0 .0, u .0 .1, u .1)
 
   new-held : (p : InertialParams) (gyr-ts acc-ts : Float) → T (taken w p gyr-ts acc-ts) → Held (new w p gyr-ts acc-ts)
-  unfolding taken rest-params-taken new fresh-state
+  unfolding new fresh-state
   new-held p gyr-ts acc-ts t =
-      let k : T (threshold-taken w (p .rest .«bias_clip»)) = simp both ((simp both at t) .0 .1 .0 .0 .0 .0) in
+      let k : T (threshold-taken w (p .rest .«bias_clip»)) = simp both (opened w p gyr-ts acc-ts t .rest .clip) in
       (k, origin-within _ (limit-within w _ k .0) w)
 
   module _ (f : Inertial) (h : Held f) where
-    from : T (le nought (gyr.radians w (f .params .rest .«bias_clip»)))
+    from : T (le nought (radians w (f .params .rest .«bias_clip»)))
     from = limit-within w _ (h .0) .0
 
-    gyr-held : (v : Vector) (ts : Float) → Left (gyr.update-gyr-with-ts w f v ts)
-    unfolding gyr.update-gyr-with-ts gyr.gyr-step
-    gyr-held v ts =
-        keeps Left (gyr-taken w v) _ _ (λ _. keeps Left (interval-taken w ts) _ _ (λ _. keeps Left (gyr-rest-of w f v .finite && quat-of w f v ts .finite) _ _ (λ _. h) h) h) h
-
-    bias-held : (acc : Vector) → T (bias-of w f acc .finite) → T (all-within (gyr.radians w (f .params .rest .«bias_clip»)) (bias-of w f acc .bias .bias))
+    bias-held : (acc : Vector) → T (bias-of w f acc .finite) → T (all-within (radians w (f .params .rest .«bias_clip»)) (bias-of w f acc .bias .bias))
     unfolding bias-step
     bias-held acc =
-        let clip = gyr.radians w (f .params .rest .«bias_clip») in
+        let clip = radians w (f .params .rest .«bias_clip») in
         let i = inclination-of w f acc in
         let b = f .state .bias in
         let s = smoothed w b (rotation w (times w (i .inclination .«acc_quat») (i .inclination .«gyr_quat»))) (f .params .«tau_acc») (f .coeffs .«acc_ts») (f .coeffs .«acc_lp») in
@@ -125,63 +114,20 @@ module _ (w : Format) where
         (λ _. updated-clipped clip from b s _ (h .1) (estimated-clipped clip from (b .bias) (widened w (b .«bias_p») (f .coeffs .bias)) m (h .1)))
         (λ _. h .1)
 
-    acc-held : (v : Vector) → Left (acc.update-acc w f v)
-    unfolding acc.update-acc acc.acc-step acc.acc-settled
-    acc-held v =
-        keeps Left (acc-taken w v) _ _
-        (λ _. keeps Left (zero-sample w v) _ _ (λ _. h)
-        (keeps Left (acc.singular (bias-of w f v)) _ _ (λ _. h)
-        (keeps Left (acc-rest-of w f v .finite && inclination-of w f v .finite && bias-of w f v .finite) _ _ (λ t. (h .0, bias-held v ((simp both at t) .1))) h)))
-        h
-
-    set-tau-acc-held : (tau : Float) → Left (setters.set-tau-acc w f tau)
-    unfolding setters.set-tau-acc setters.retuned setters.adapted-bias
-    set-tau-acc-held tau =
-        keeps Left (tau-taken w (f .coeffs .«acc_ts») tau) _ _
-        (λ _. keeps Left (eq (f .params .«tau_acc») tau) _ _ (λ _. h) (keeps Left (fits w f tau) _ _ (λ _. h) h))
-        h
-
-    set-motion-held : (on : Bool) → Held (setters.set-motion-bias-est-enabled f on)
-    unfolding setters.set-motion-bias-est-enabled
-    set-motion-held on = keeps Held (Bool·beq (f .params .bias .«motion_bias_est_enabled») on) f _ (λ _. h) h
-
-    set-rest-held : (on : Bool) → Held (setters.set-rest-bias-est-enabled w f on)
-    unfolding setters.set-rest-bias-est-enabled
-    set-rest-held on = keeps Held (Bool·beq (f .params .rest .«rest_bias_est_enabled») on) f _ (λ _. h) h
-
-    set-dist-held : (on : Bool) → Held (setters.set-mag-dist-rejection-enabled f on)
-    unfolding setters.set-mag-dist-rejection-enabled
-    set-dist-held on = h
-
-    set-thresholds-held : (g a : Float) → Left (setters.set-rest-detection-thresholds w f g a)
-    unfolding setters.set-rest-detection-thresholds
-    set-thresholds-held g a = keeps Left (threshold-taken w g && threshold-taken w a) _ _ (λ _. h) h
-
-    set-bias-held : (v : Vector) (sigma : Sigma) → Left (setters.set-bias-estimate w f v sigma)
-    unfolding setters.set-bias-estimate setters.with-estimate
-    set-bias-held v sigma =
-        let clip = f .params .rest .«bias_clip» in
-        keeps Left (setters.bias-taken w clip v && setters.sigma-or-none-taken w sigma) _ _ (λ t. (h .0, both (setters.bias-taken w clip v) (setters.sigma-or-none-taken w sigma) .0 t .0)) h
-
-    reset-held : Held (setters.reset-state w f)
-    unfolding setters.reset-state fresh-state
-    reset-held = (h .0, origin-within _ from w)
-
-  call-held : (f : Inertial) (c : Call) → Held f → Left (reply w f c)
-  call-held f (update-gyr v) h = gyr-held f h v (f .coeffs .«gyr_ts»)
-  call-held f (update-gyr-with-ts v ts) h = gyr-held f h v ts
-  call-held f (update-acc v) h = acc-held f h v
-  call-held f (set-tau-acc tau) h = set-tau-acc-held f h tau
-  call-held f (set-motion-bias-est-enabled on) h = set-motion-held f h on
-  call-held f (set-rest-bias-est-enabled on) h = set-rest-held f h on
-  call-held f (set-mag-dist-rejection-enabled on) h = set-dist-held f h on
-  call-held f (set-rest-detection-thresholds g a) h = set-thresholds-held f h g a
-  call-held f (set-bias-estimate v sigma) h = set-bias-held f h v sigma
-  call-held f reset-state h = reset-held f h
-
-  run-held : (f : Inertial) (cs : List Call) → Held f → Held (run w f cs)
-  run-held f [] h = h
-  run-held f (c ∷ cs) h = run-held (reply w f c .left) cs (call-held f c h)
+  held : Invariant w Held
+  unfolding setters.adapted-bias setters.set-motion-bias-est-enabled setters.set-rest-bias-est-enabled setters.set-mag-dist-rejection-enabled setters.with-estimate setters.reset-state fresh-state
+  held = record {
+    built = new-held;
+    gyr = λ f h v ts _. h;
+    acc = λ f h v t. (h .0, bias-held f h v ((simp both at t) .1));
+    tau-acc = λ f h tau. h;
+    motion = λ f h on. keeps Held (Bool·beq (f .params .bias .«motion_bias_est_enabled») on) f _ (λ _. h) h;
+    rest = λ f h on. keeps Held (Bool·beq (f .params .rest .«rest_bias_est_enabled») on) f _ (λ _. h) h;
+    dist = λ f h on. h;
+    thresholds = λ f h g a _. h;
+    bias = λ f h v sigma t. (h .0, both (setters.bias-taken w (f .params .rest .«bias_clip») v) (setters.sigma-or-none-taken w sigma) .0 t .0);
+    reset = λ f h. (h .0, origin-within _ (from f h) w);
+  }
 
   pub reached-held : (p : InertialParams) (gyr-ts acc-ts : Float) (cs : List Call) → T (taken w p gyr-ts acc-ts) → Held (run w (new w p gyr-ts acc-ts) cs)
-  reached-held p gyr-ts acc-ts cs t = run-held (new w p gyr-ts acc-ts) cs (new-held p gyr-ts acc-ts t)
+  reached-held = reached w Held held

@@ -10,21 +10,23 @@ use lib.Ieee.Scale.{finite}
 use Rattle.floats.specs.Notation.{two, pi}
 use Rattle.floats.specs.Decimals.{half-turn}
 use Rattle.floats.specs.Tests.{both, keeps}
-use Rattle.floats.specs.Order.{nought, Within, within-finite}
+use Rattle.floats.specs.Order.{nought, Within, within-finite, each-finite}
 use Rattle.floats.specs.Products.{finite-number}
 use Rattle.floats.specs.Intervals.{none, known, Expr, var, lit, mul·, div·, bound, inside, bounded}
 use Rattle.algebra.specs.declared.vector.Vector.{Vector}
 use Rattle.limits.specs.Limits.{threshold-taken, least-threshold, threshold-limit}
 use Rattle.limits.specs.BySize.{beyond, all-numbers}
 use Rattle.limits.proofs.BySize.{by-size}
-use Rattle.inertial.specs.Gyr.{square, radians, gyr-stirred}
+use Rattle.tilt.specs.Scalars.{square, radians}
+use Rattle.tilt.specs.Gyr.{gyr-stirred}
 use Rattle.inertial.specs.Setup.{new}
 use Rattle.inertial.specs.Setters.{bias-taken}
-use Rattle.inertial.specs.Calls.{Call, update-gyr, update-acc, update-gyr-with-ts, set-tau-acc, set-motion-bias-est-enabled, set-rest-bias-est-enabled, set-mag-dist-rejection-enabled, set-rest-detection-thresholds, set-bias-estimate, reset-state, Answered, answered, answers}
-use Rattle.inertial.specs.RestHistory.{Diary, opened, watched, if-accepted, noted, next, written}
+use Rattle.inertial.specs.Calls.{Call, own, update-gyr, update-acc, update-gyr-with-ts, set-tau-acc, set-motion-bias-est-enabled, set-rest-bias-est-enabled, set-mag-dist-rejection-enabled, set-rest-detection-thresholds, set-bias-estimate, reset-state, Answered, answered, answers}
+use Rattle.tilt.specs.RestHistory.{Diary, watched}
+use Rattle.inertial.specs.RestHistory.{if-accepted, opened, noted, next, written}
 use Rattle.inertial.specs.BiasLimit.{BiasLimit}
 use Rattle.inertial.specs.declared.types.Inertial.{Inertial}
-use Rattle.inertial.specs.declared.types.RestParams.{RestParams}
+use Rattle.tilt.specs.declared.types.RestParams.{RestParams}
 use Rattle.inertial.proofs.RestHistory.{rest-from-history}
 
 -- ---- the limit
@@ -40,17 +42,13 @@ unfolding bound inside div le ofBits
 limit-within binary32 clip t = let h = simp both at t in bounded binary32 (known clip (least-threshold binary32) (threshold-limit binary32) h none) (radians· binary32) nought (quarter binary32) tt
 limit-within binary64 clip t = let h = simp both at t in bounded binary64 (known clip (least-threshold binary64) (threshold-limit binary64) h none) (radians· binary64) nought (quarter binary64) tt
 
-quarter-finite : (w : Format) → T (finite (quarter w))
-unfolding div ofBits
-quarter-finite binary32 = tt
-quarter-finite binary64 = tt
-
 pub limit-finite : (w : Format) (clip : Float) → T (threshold-taken w clip) → T (finite (radians w clip))
-limit-finite w clip t = within-finite (radians w clip) nought (quarter w) tt (quarter-finite w) (limit-within w clip t)
+unfolding div ofBits
+limit-finite w clip t = within-finite (radians w clip) nought (quarter w) tt (each-finite quarter tt w) (limit-within w clip t)
 
 -- the clip is one that a construction takes
-abbrev pub ClipTaken : Inertial → Type 0
-ClipTaken f = T (threshold-taken binary64 (f .params .rest .«bias_clip»))
+abbrev pub ClipTaken : Format → Inertial → Type 0
+ClipTaken w f = T (threshold-taken w (f .params .rest .«bias_clip»))
 
 -- ---- the gyro step's test, where the deviation is below the threshold
 beyond-alone : (stirred x y z : Bool) → T (not stirred) → (x || y || z) ≡ (stirred || x || y || z)
@@ -76,16 +74,16 @@ abbrev Same : Diary → Diary → Type 0
 Same d e = clip-of e ≡ clip-of d
 
 noted-keeps : (d : Diary) (c : Call) → Same d (noted d c)
-noted-keeps d (update-gyr v) = keeps (Same d) (watched (d .settings)) _ d (λ _. refl) refl
-noted-keeps d (update-gyr-with-ts v ts) = keeps (Same d) (watched (d .settings)) _ d (λ _. refl) refl
-noted-keeps d (update-acc v) = keeps (Same d) (d .settings .«rest_bias_est_enabled») _ d (λ _. refl) refl
-noted-keeps d (set-rest-bias-est-enabled on) = keeps (Same d) (Bool·beq (d .settings .«rest_bias_est_enabled») on) d _ (λ _. refl) refl
+noted-keeps d (own (update-gyr v)) = keeps (Same d) (watched (d .settings)) _ d (λ _. refl) refl
+noted-keeps d (own (update-gyr-with-ts v ts)) = keeps (Same d) (watched (d .settings)) _ d (λ _. refl) refl
+noted-keeps d (own (update-acc v)) = keeps (Same d) (d .settings .«rest_bias_est_enabled») _ d (λ _. refl) refl
+noted-keeps d (own (set-rest-bias-est-enabled on)) = keeps (Same d) (Bool·beq (d .settings .«rest_bias_est_enabled») on) d _ (λ _. refl) refl
 noted-keeps d (set-mag-dist-rejection-enabled on) = refl
-noted-keeps d (set-rest-detection-thresholds g a) = refl
+noted-keeps d (own (set-rest-detection-thresholds g a)) = refl
 noted-keeps d reset-state = refl
-noted-keeps d (set-tau-acc tau) = refl
-noted-keeps d (set-motion-bias-est-enabled on) = refl
-noted-keeps d (set-bias-estimate v sigma) = refl
+noted-keeps d (own (set-tau-acc tau)) = refl
+noted-keeps d (own (set-motion-bias-est-enabled on)) = refl
+noted-keeps d (own (set-bias-estimate v sigma)) = refl
 
 next-keeps : (d : Diary) (c : Call) (n : ℕ) → Same d (if-accepted n (noted d c) d)
 next-keeps d c ℕ.zero = noted-keeps d c

@@ -1,9 +1,12 @@
-pub mod HalfTurn
+pub mod Parts
 pub mod Construction
+pub mod Runs
 pub mod RestHistory
+pub mod Steps
 pub mod Tested
 pub mod BiasLimit
 pub mod FiniteCalls
+pub mod Invariants
 pub mod BiasHeld
 pub mod CountsHeld
 pub mod Sound

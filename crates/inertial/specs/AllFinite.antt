@@ -3,16 +3,16 @@ use mathlib.Core.Bool.{Bool, _&&_}
 use lib.Ieee.Scale.{finite}
 use Rattle.algebra.specs.Quaternions as quaternions
 use Rattle.filters.specs.Coefficients.{finite-coeffs}
-use Rattle.inertial.specs.Gyr.{finite-gyr-rest}
+use Rattle.tilt.specs.Gyr.{finite-gyr-rest}
 use Rattle.inertial.specs.Kalman.{finite-bias}
-use Rattle.inertial.specs.Acc.{finite-acc-rest, finite-inclination}
+use Rattle.tilt.specs.Acc.{finite-acc-rest, finite-inclination}
 use Rattle.inertial.specs.declared.types.BiasCoefficients.{BiasCoefficients}
 use Rattle.inertial.specs.declared.types.BiasParams.{BiasParams}
 use Rattle.inertial.specs.declared.types.Inertial.{Inertial}
 use Rattle.inertial.specs.declared.types.InertialCoefficients.{InertialCoefficients}
 use Rattle.inertial.specs.declared.types.InertialParams.{InertialParams}
 use Rattle.inertial.specs.declared.types.InertialState.{InertialState}
-use Rattle.inertial.specs.declared.types.RestParams.{RestParams}
+use Rattle.tilt.specs.declared.types.RestParams.{RestParams}
 
 unfoldable pub finite-rest-params : RestParams → Bool
 finite-rest-params p =

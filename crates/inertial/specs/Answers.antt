@@ -12,19 +12,22 @@ use Rattle.algebra.specs.declared.vector.Vector.{Vector}
 use Rattle.algebra.specs.declared.matrix.Matrix.{Matrix}
 use Rattle.filters.specs.Coefficients.{filter-coeffs}
 use Rattle.filters.specs.declared.coeffs.Coeffs.{Coeffs}
+use Rattle.limits.specs.Answers.{Kept}
 use Rattle.limits.specs.Table.{Faults, faultless, setting-fault, Exactly}
 use Rattle.limits.specs.Limits.{within, gyr-taken, acc-taken, interval-taken, zero-sample, tau-taken, threshold-taken}
 use Rattle.inertial.specs.Told.{state-of, with-state}
-use Rattle.inertial.specs.Gyr.{with-gyr-quat, gyr-rest, predicted}
+use Rattle.inertial.specs.Gyr.{with-gyr-quat}
+use Rattle.tilt.specs.Gyr.{gyr-rest, predicted}
 use Rattle.inertial.specs.Kalman.{rotation, smoothed, measured, widened, innovation, bias-step}
-use Rattle.inertial.specs.Acc.{acc-rest, inclined}
-use Rattle.inertial.specs.Setters.{with-tau-acc, with-acc-lp, adapted-inclination, adapted-bias, bias-taken, sigma-or-none-taken}
+use Rattle.tilt.specs.Acc.{acc-rest, inclined}
+use Rattle.inertial.specs.Setters.{with-tau-acc, with-acc-lp, adapted-bias, bias-taken, sigma-or-none-taken}
+use Rattle.tilt.specs.Setters.{adapted-inclination}
 use Rattle.inertial.specs.AllFinite.{all-finite}
-use Rattle.inertial.specs.Calls.{Call, update-gyr, update-acc, update-gyr-with-ts, set-tau-acc, set-motion-bias-est-enabled, set-rest-bias-est-enabled, set-mag-dist-rejection-enabled, set-rest-detection-thresholds, set-bias-estimate, reset-state, reply}
+use Rattle.inertial.specs.Calls.{Call, own, update-gyr, update-acc, update-gyr-with-ts, set-tau-acc, set-motion-bias-est-enabled, set-rest-bias-est-enabled, set-mag-dist-rejection-enabled, set-rest-detection-thresholds, set-bias-estimate, reset-state, reply}
 use Rattle.inertial.specs.declared.types.Inertial.{Inertial}
-use Rattle.inertial.specs.declared.gyr.TriedRest.{TriedRest}
-use Rattle.inertial.specs.declared.gyr.TriedQuat.{TriedQuat}
-use Rattle.inertial.specs.declared.acc.TriedInclination.{TriedInclination}
+use Rattle.tilt.specs.declared.rest.TriedRest.{TriedRest}
+use Rattle.tilt.specs.declared.gyr.TriedQuat.{TriedQuat}
+use Rattle.tilt.specs.declared.acc.TriedInclination.{TriedInclination}
 use Rattle.inertial.specs.declared.kalman.Measurement.{Measurement}
 use Rattle.inertial.specs.declared.kalman.TriedBias.{TriedBias}
 
@@ -122,20 +125,22 @@ module _ (w : Format) where
   }
 
   abbrev pub faults : Inertial → Call → Faults
-  faults f (update-gyr gyr) = gyr-faults f gyr (f .coeffs .«gyr_ts»)
-  faults f (update-gyr-with-ts gyr ts) = gyr-faults f gyr ts
-  faults f (update-acc acc) = acc-faults f acc
-  faults f (set-tau-acc tau) = tau-acc-faults f tau
-  faults f (set-rest-detection-thresholds gyr acc) = setting-fault (not (threshold-taken w gyr && threshold-taken w acc))
-  faults f (set-bias-estimate bias sigma) = setting-fault (not (bias-taken w (f .params .rest .«bias_clip») bias && sigma-or-none-taken w sigma))
-  faults f (set-motion-bias-est-enabled on) = faultless
-  faults f (set-rest-bias-est-enabled on) = faultless
+  faults f (own (update-gyr gyr)) = gyr-faults f gyr (f .coeffs .«gyr_ts»)
+  faults f (own (update-gyr-with-ts gyr ts)) = gyr-faults f gyr ts
+  faults f (own (update-acc acc)) = acc-faults f acc
+  faults f (own (set-tau-acc tau)) = tau-acc-faults f tau
+  faults f (own (set-rest-detection-thresholds gyr acc)) = setting-fault (not (threshold-taken w gyr && threshold-taken w acc))
+  faults f (own (set-bias-estimate bias sigma)) = setting-fault (not (bias-taken w (f .params .rest .«bias_clip») bias && sigma-or-none-taken w sigma))
+  faults f (own (set-motion-bias-est-enabled on)) = faultless
+  faults f (own (set-rest-bias-est-enabled on)) = faultless
   faults f (set-mag-dist-rejection-enabled on) = faultless
   faults f reset-state = faultless
 
   -- on a filter that holds finite numbers, each call's answer is exactly the table's; and what a call would leave is what it leaves
   pub record Answers : Type 0 where
     pub by-table : (f : Inertial) (c : Call) → T (all-finite f) → Exactly (faults f c) (reply w f c .number)
-    pub gyr-leaves : (f : Inertial) (gyr : Vector) (ts : Float) → reply w f (update-gyr-with-ts gyr ts) .number ≡ 0 → reply w f (update-gyr-with-ts gyr ts) .left ≡ after-gyr f gyr ts
-    pub acc-leaves : (f : Inertial) (acc : Vector) → reply w f (update-acc acc) .number ≡ 0 → reply w f (update-acc acc) .left ≡ after-acc f acc
-    pub tau-acc-leaves : (f : Inertial) (tau : Float) → reply w f (set-tau-acc tau) .number ≡ 0 → reply w f (set-tau-acc tau) .left ≡ after-tau-acc f tau
+    -- a refused call leaves the half as it was
+    pub kept : (f : Inertial) (c : Call) → Kept f (reply w f c)
+    pub gyr-leaves : (f : Inertial) (gyr : Vector) (ts : Float) → let t = reply w f (own (update-gyr-with-ts gyr ts)) in t .number ≡ 0 → t .left ≡ after-gyr f gyr ts
+    pub acc-leaves : (f : Inertial) (acc : Vector) → let t = reply w f (own (update-acc acc)) in t .number ≡ 0 → t .left ≡ after-acc f acc
+    pub tau-acc-leaves : (f : Inertial) (tau : Float) → let t = reply w f (own (set-tau-acc tau)) in t .number ≡ 0 → t .left ≡ after-tau-acc f tau

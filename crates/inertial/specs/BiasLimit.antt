@@ -7,12 +7,13 @@ use lib.Ieee.{Float, Format, le}
 use Rattle.algebra.specs.declared.vector.Vector.{Vector}
 use Rattle.limits.specs.Limits.{threshold-taken}
 use Rattle.limits.specs.BySize.{all-numbers}
-use Rattle.inertial.specs.Gyr.{square, radians, gyr-stirred}
+use Rattle.tilt.specs.Scalars.{square, radians}
+use Rattle.tilt.specs.Gyr.{gyr-stirred}
 use Rattle.inertial.specs.Setup.{new}
 use Rattle.inertial.specs.Setters.{bias-taken}
 use Rattle.inertial.specs.Calls.{Call, run}
 use Rattle.inertial.specs.declared.types.InertialParams.{InertialParams}
-use Rattle.inertial.specs.declared.types.RestParams.{RestParams}
+use Rattle.tilt.specs.declared.types.RestParams.{RestParams}
 
 pub record BiasLimit (w : Format) : Type 0 where
   -- "beyond `bias_clip` times PI/180, worked out as the gyro step works it out": a bias is taken exactly where none of its components is a NaN and

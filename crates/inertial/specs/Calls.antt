@@ -11,13 +11,19 @@ use Rattle.inertial.specs.Setters as setters
 use Rattle.inertial.specs.declared.types.Inertial.{Inertial}
 use Rattle.inertial.specs.declared.setters.Sigma.{Sigma}
 
+-- the calls on this half alone
+pub data Own : Type 0 where
+  update-gyr update-acc : Vector → Own
+  update-gyr-with-ts : Vector → Float → Own
+  set-tau-acc : Float → Own
+  set-motion-bias-est-enabled set-rest-bias-est-enabled : Bool → Own
+  set-rest-detection-thresholds : Float → Float → Own
+  set-bias-estimate : Vector → Sigma → Own
+
+-- the calls that reach it: its own, and its part of those on both halves
 pub data Call : Type 0 where
-  update-gyr update-acc : Vector → Call
-  update-gyr-with-ts : Vector → Float → Call
-  set-tau-acc : Float → Call
-  set-motion-bias-est-enabled set-rest-bias-est-enabled set-mag-dist-rejection-enabled : Bool → Call
-  set-rest-detection-thresholds : Float → Float → Call
-  set-bias-estimate : Vector → Sigma → Call
+  own : Own → Call
+  set-mag-dist-rejection-enabled : Bool → Call
   reset-state : Call
 
 -- a call and what it was answered
@@ -33,15 +39,15 @@ answered (c ∷ cs) (n ∷ ns) = record { call = c; number = n } ∷ answered cs
 
 module _ (w : Format) where
   abbrev pub reply : Inertial → Call → Told Inertial
-  reply f (update-gyr v) = gyr.update-gyr w f v
-  reply f (update-acc v) = acc.update-acc w f v
-  reply f (update-gyr-with-ts v ts) = gyr.update-gyr-with-ts w f v ts
-  reply f (set-tau-acc tau) = setters.set-tau-acc w f tau
-  reply f (set-motion-bias-est-enabled on) = told 0 (setters.set-motion-bias-est-enabled f on)
-  reply f (set-rest-bias-est-enabled on) = told 0 (setters.set-rest-bias-est-enabled w f on)
+  reply f (own (update-gyr v)) = gyr.update-gyr w f v
+  reply f (own (update-acc v)) = acc.update-acc w f v
+  reply f (own (update-gyr-with-ts v ts)) = gyr.update-gyr-with-ts w f v ts
+  reply f (own (set-tau-acc tau)) = setters.set-tau-acc w f tau
+  reply f (own (set-motion-bias-est-enabled on)) = told 0 (setters.set-motion-bias-est-enabled f on)
+  reply f (own (set-rest-bias-est-enabled on)) = told 0 (setters.set-rest-bias-est-enabled w f on)
   reply f (set-mag-dist-rejection-enabled on) = told 0 (setters.set-mag-dist-rejection-enabled f on)
-  reply f (set-rest-detection-thresholds g a) = setters.set-rest-detection-thresholds w f g a
-  reply f (set-bias-estimate v sigma) = setters.set-bias-estimate w f v sigma
+  reply f (own (set-rest-detection-thresholds g a)) = setters.set-rest-detection-thresholds w f g a
+  reply f (own (set-bias-estimate v sigma)) = setters.set-bias-estimate w f v sigma
   reply f reset-state = told 0 (setters.reset-state w f)
 
   abbrev pub run : Inertial → List Call → Inertial

@@ -15,13 +15,13 @@ use Rattle.algebra.specs.declared.matrix.Inverse.{Inverse}
 use Rattle.algebra.specs.declared.matrix.Inverse.the-variants as inverse
 use Rattle.filters.specs.Banks.{filter-vec2, filter-vec9, finite-channels}
 use Rattle.filters.specs.declared.coeffs.Coeffs.{Coeffs}
-use Rattle.inertial.specs.Gyr.{square, radians}
+use Rattle.tilt.specs.Scalars.{square, radians}
 use Rattle.inertial.specs.declared.types.Bias.{Bias}
 use Rattle.inertial.specs.declared.types.BiasCoefficients.{BiasCoefficients}
-use Rattle.inertial.specs.declared.types.Inclination.{Inclination}
+use Rattle.tilt.specs.declared.types.Inclination.{Inclination}
 use Rattle.inertial.specs.declared.types.InertialParams.{InertialParams}
 use Rattle.inertial.specs.declared.types.InertialCoefficients.{InertialCoefficients}
-use Rattle.inertial.specs.declared.types.Rest.{Rest}
+use Rattle.tilt.specs.declared.types.Rest.{Rest}
 use Rattle.inertial.specs.declared.kalman.Smooth.{Smooth}
 use Rattle.inertial.specs.declared.kalman.Measurement.{Measurement}
 use Rattle.inertial.specs.declared.kalman.KalmanStep.{KalmanStep}
@@ -148,7 +148,7 @@ module _ (w : Format) where
   by-inverse bias p m c inverse.NotFinite = NotFinite
   by-inverse bias p m c (inverse.Inverted i) =
       let k = gain p (m .r) i in
-      Next (record { bias = clip (neg c) c (shifted bias k (clip (neg c) c (m .e))); «bias_p» = shrunk p k (m .r) })
+      Next (record { bias = clip (shifted bias k (clip (m .e) (neg c) c)) (neg c) c; «bias_p» = shrunk p k (m .r) })
 
   unfoldable pub estimated : Vector → Matrix → Measurement → Float → KalmanStep
   estimated bias p m c =

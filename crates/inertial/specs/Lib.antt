@@ -1,10 +1,11 @@
+pub mod Types
 pub mod Told
 pub mod Gyr
 pub mod Kalman
 pub mod Acc
-pub mod HalfTurn
 pub mod Setup
 pub mod Setters
+pub mod Asked
 pub mod Decimals
 pub mod AllFinite
 pub mod Construction

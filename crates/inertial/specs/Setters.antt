@@ -1,36 +1,30 @@
--- The setters of the inertial half, and what it answers when asked, over the format w.
+-- The setters of the inertial half, over the format w.
 use mathlib.Core.Bool.{Bool, true, cond, _&&_, Bool·beq}
 use lib.ListN.{replicate}
 use lib.Ieee.{Float, Format, eq}
 use Rattle.floats.specs.Notation.{Rounded, rounded, pi}
 use Rattle.floats.specs.Decimals.{hundred, half-turn}
-use Rattle.floats.specs.Definitions.{magnitude, larger, smaller}
-use Rattle.numbers.specs.Root.{root}
-use Rattle.algebra.specs.Quaternions.{times}
 use Rattle.algebra.specs.Matrices.{diagonal}
 use Rattle.algebra.specs.declared.vector.Vector.{Vector}
-use Rattle.algebra.specs.declared.quaternion.Quaternion.{Quaternion}
 use Rattle.algebra.specs.declared.matrix.Matrix.{Matrix}
 use Rattle.filters.specs.Channels.{fresh}
-use Rattle.filters.specs.Banks.{adapt2, adapt3, adapt9, first-numbers, finite-channels}
-use Rattle.filters.specs.Coefficients.{filter-coeffs}
-unfoldable pub use Rattle.filters.specs.Coefficients.{finite-coeffs}
+use Rattle.filters.specs.Banks.{adapt2, adapt9, first-numbers, finite-channels}
+use Rattle.filters.specs.Coefficients.{filter-coeffs, finite-coeffs}
 use Rattle.filters.specs.declared.coeffs.Coeffs.{Coeffs}
 use Rattle.limits.specs.Answers.{Told, told}
 use Rattle.limits.specs.Limits.{all-within, tau-taken, threshold-taken, sigma-taken}
+use Rattle.tilt.specs.Setters.{adapted-inclination}
 use Rattle.inertial.specs.Told.{state-of, with-state, if-finite}
-use Rattle.inertial.specs.Gyr.{square, radians}
-use Rattle.inertial.specs.Setup.{fresh-rest, fresh-state}
+use Rattle.tilt.specs.Scalars.{square, radians}
+use Rattle.tilt.specs.Setup.{fresh-rest}
+use Rattle.inertial.specs.Setup.{fresh-state}
 use Rattle.inertial.specs.declared.types.Bias.{Bias}
-use Rattle.inertial.specs.declared.types.Deviations.{Deviations}
-use Rattle.inertial.specs.declared.types.Inclination.{Inclination}
 use Rattle.inertial.specs.declared.types.Inertial.{Inertial}
 use Rattle.inertial.specs.declared.types.InertialCoefficients.{InertialCoefficients}
 use Rattle.inertial.specs.declared.types.InertialParams.{InertialParams}
-use Rattle.inertial.specs.declared.types.RestParams.{RestParams}
+use Rattle.tilt.specs.declared.types.RestParams.{RestParams}
 use Rattle.inertial.specs.declared.setters.Sigma.{Sigma}
 use Rattle.inertial.specs.declared.setters.Sigma.the-variants.{Absent, Given}
-use Rattle.inertial.specs.declared.setters.BiasEstimate.{BiasEstimate}
 
 -- ---- a group, or a setting, in the place of another
 abbrev pub with-params : Inertial → InertialParams → Inertial
@@ -96,16 +90,6 @@ abbrev pub with-bias : Inertial → Bias → Inertial
 with-bias f b = with-state f (state-of (f .state .inclination) b (f .state .rest))
 
 -- ---- the setters
-unfoldable pub adapted-inclination : Inclination → Coeffs → Coeffs → Inclination
-adapted-inclination i old new =
-    record {
-      «gyr_quat» = i .«gyr_quat»;
-      «acc_quat» = i .«acc_quat»;
-      «last_acc_lp» = i .«last_acc_lp»;
-      «acc_lp_state» = adapt3 (i .«last_acc_lp») old new (i .«acc_lp_state»);
-      «last_acc_corr_angular_rate» = i .«last_acc_corr_angular_rate»;
-    }
-
 -- a switch that does not change changes nothing
 unfoldable pub set-motion-bias-est-enabled : Inertial → Bool → Inertial
 set-motion-bias-est-enabled f on =
@@ -122,10 +106,6 @@ unfoldable pub set-mag-dist-rejection-enabled : Inertial → Bool → Inertial
 set-mag-dist-rejection-enabled f on =
     let p = f .params .rest in
     with-params f (with-rest-params (f .params) (with-switches p (p .«rest_bias_est_enabled») on))
-
--- ---- what it answers
-abbrev pub quat-3d : Inertial → Quaternion
-quat-3d f = f .state .inclination .«gyr_quat»
 
 module _ (w : Format) where
   open Rounded (rounded w) using (_⊕_, _⊖_, _⊗_, _⊘_)
@@ -204,23 +184,3 @@ module _ (w : Format) where
 
   unfoldable pub reset-state : Inertial → Inertial
   reset-state f = with-state f (fresh-state w (f .coeffs .bias .«bias_p0»))
-
-  unfoldable pub quat-6d : Inertial → Quaternion
-  quat-6d f = times w (f .state .inclination .«acc_quat») (f .state .inclination .«gyr_quat»)
-
-  unfoldable pub row-sum : Float → Float → Float → Float
-  row-sum x y z = magnitude x ⊕ magnitude y ⊕ magnitude z
-
-  unfoldable pub bias-estimate : Inertial → BiasEstimate
-  bias-estimate f =
-      let m = f .state .bias .«bias_p» in
-      let sum1 = row-sum (m .m00) (m .m01) (m .m02) in
-      let sum2 = row-sum (m .m10) (m .m11) (m .m12) in
-      let sum3 = row-sum (m .m20) (m .m21) (m .m22) in
-      let p = smaller (larger (larger sum1 sum2) sum3) (f .coeffs .bias .«bias_p0») in
-      record { bias = f .state .bias .bias; sigma = root w p ⊗ (pi w ⊘ hundred w ⊘ half-turn w) }
-
-  unfoldable pub relative-rest-deviations : Inertial → Deviations
-  relative-rest-deviations f =
-      let d = f .state .rest .«rest_last_squared_deviations» in
-      record { 0 = root w (d .0) ⊘ radians w (f .params .rest .«rest_th_gyr»); 1 = root w (d .1) ⊘ f .params .rest .«rest_th_acc» }

@@ -1,28 +1,26 @@
 -- The house settings, which settings are taken, and the coefficients and the fresh state that they give, over the format w.
-use mathlib.Core.Bool.{Bool, true, false, _&&_}
+use mathlib.Core.Bool.{Bool, true, _&&_}
 use lib.ListN.{replicate}
 use lib.Ieee.{Float, Format}
-use Rattle.floats.specs.Notation.{Rounded, rounded, zero, half, two}
+use Rattle.floats.specs.Notation.{Rounded, rounded, half, two}
 use Rattle.floats.specs.Decimals.{three, hundred, one-and-a-half, tenth, three-hundredths, ten-thousandth, ten-billionth}
 use Rattle.floats.specs.Definitions.{larger}
 use Rattle.algebra.specs.Vectors.{origin}
-use Rattle.algebra.specs.Quaternions.{identity}
 use Rattle.algebra.specs.Matrices.{diagonal}
 use Rattle.filters.specs.Channels.{fresh}
 use Rattle.filters.specs.Coefficients.{filter-coeffs}
-use Rattle.limits.specs.Limits.{interval-taken, tau-taken, sigma-taken, vertical-factor-taken, forgetting-time-taken, threshold-taken, duration-taken}
-use Rattle.inertial.specs.Gyr.{square}
+use Rattle.limits.specs.Limits.{interval-taken, tau-taken, sigma-taken, vertical-factor-taken, forgetting-time-taken}
+use Rattle.tilt.specs.Scalars.{square}
+use Rattle.tilt.specs.Setup.{rest-params-taken, fresh-rest, fresh-inclination}
 use Rattle.inertial.specs.declared.types.BiasCoefficients.{BiasCoefficients}
 use Rattle.inertial.specs.declared.types.BiasParams.{BiasParams}
 use Rattle.inertial.specs.declared.types.Inertial.{Inertial}
 use Rattle.inertial.specs.declared.types.InertialCoefficients.{InertialCoefficients}
 use Rattle.inertial.specs.declared.types.InertialParams.{InertialParams}
 use Rattle.inertial.specs.declared.types.InertialState.{InertialState}
-use Rattle.inertial.specs.declared.types.Rest.{Rest}
-use Rattle.inertial.specs.declared.types.RestParams.{RestParams}
 
 module _ (w : Format) where
-  open Rounded (rounded w) using (_⊕_, _⊖_, _⊗_, _⊘_)
+  open Rounded (rounded w) using (_⊕_, _⊗_, _⊘_)
 
   unfoldable pub house : InertialParams
   house = record {
@@ -46,14 +44,6 @@ module _ (w : Format) where
     };
   }
 
-  unfoldable pub rest-params-taken : RestParams → Float → Float → Bool
-  rest-params-taken p gyr-ts acc-ts =
-      threshold-taken w (p .«bias_clip»)
-      && duration-taken w (p .«rest_min_t»)
-      && tau-taken w (larger gyr-ts acc-ts) (p .«rest_filter_tau»)
-      && threshold-taken w (p .«rest_th_gyr»)
-      && threshold-taken w (p .«rest_th_acc»)
-
   unfoldable pub bias-params-taken : BiasParams → Bool
   bias-params-taken p =
       sigma-taken w (p .«bias_sigma_init»)
@@ -67,7 +57,7 @@ module _ (w : Format) where
       interval-taken w gyr-ts
       && interval-taken w acc-ts
       && tau-taken w acc-ts (p .«tau_acc»)
-      && rest-params-taken (p .rest) gyr-ts acc-ts
+      && rest-params-taken w (p .rest) gyr-ts acc-ts
       && bias-params-taken (p .bias)
 
   unfoldable pub bias-coefficients : BiasParams → Float → BiasCoefficients
@@ -94,33 +84,16 @@ module _ (w : Format) where
     bias = bias-coefficients (p .bias) acc-ts;
   }
 
-  unfoldable pub fresh-rest : Rest
-  fresh-rest = record {
-    «rest_detected» = false;
-    «rest_last_squared_deviations» = record { 0 = zero w; 1 = zero w };
-    «rest_t» = zero w;
-    «rest_last_gyr_lp» = origin w;
-    «rest_gyr_lp_state» = replicate 3 fresh;
-    «rest_last_acc_lp» = origin w;
-    «rest_acc_lp_state» = replicate 3 fresh;
-  }
-
   unfoldable pub fresh-state : Float → InertialState
   fresh-state p0 = record {
-    inclination = record {
-      «gyr_quat» = identity w;
-      «acc_quat» = identity w;
-      «last_acc_lp» = origin w;
-      «acc_lp_state» = replicate 3 fresh;
-      «last_acc_corr_angular_rate» = zero w;
-    };
+    inclination = fresh-inclination w;
     bias = record {
       bias = origin w;
       «bias_p» = diagonal w p0;
       «motion_bias_est_rlp_state» = replicate 9 fresh;
       «motion_bias_est_bias_lp_state» = replicate 2 fresh;
     };
-    rest = fresh-rest;
+    rest = fresh-rest w;
   }
 
   unfoldable pub new : InertialParams → Float → Float → Inertial

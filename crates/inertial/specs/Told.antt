@@ -1,9 +1,9 @@
 -- What the inertial half is told to give, and how one of its groups is put in the place of another: the one place for each record.
 use mathlib.Core.Bool.{Bool, cond}
 use Rattle.limits.specs.Answers.{number, Told, told}
-use Rattle.inertial.specs.declared.types.Inclination.{Inclination}
+use Rattle.tilt.specs.declared.types.Inclination.{Inclination}
 use Rattle.inertial.specs.declared.types.Bias.{Bias}
-use Rattle.inertial.specs.declared.types.Rest.{Rest}
+use Rattle.tilt.specs.declared.types.Rest.{Rest}
 use Rattle.inertial.specs.declared.types.InertialState.{InertialState}
 use Rattle.inertial.specs.declared.types.Inertial.{Inertial}
 use Rattle.inertial.specs.declared.types.Updated.{Updated}

@@ -1,7 +1,7 @@
 -- A gyro sample that is taken turns the reader by an angle at whose half sine and cosine are given, and leaves a finite quaternion. The proof is in proofs/Turns.antt.
 use mathlib.Core.List.{List}
 use lib.Dec.{T}
-use lib.Ieee.{Float, Format, binary64, sub}
+use lib.Ieee.{Float, Format, sub}
 use Rattle.floats.specs.Notation.{zero}
 use Rattle.floats.specs.Order.{Within}
 use Rattle.numbers.specs.HalfAngles.{half-angle, largest}
@@ -26,10 +26,10 @@ HalfAngleServed w f =
     → let v = rate w f gyr in Within (half-angle w (v .0) (v .1) (v .2) ts) (zero w) (largest w)
 
 -- the turn leaves a finite quaternion, so it is no cause of a 6
-abbrev pub TurnFinite : Inertial → Type 0
-TurnFinite f = (gyr : Vector) (ts : Float) → T (gyr-taken binary64 gyr) → T (interval-taken binary64 ts) → T (quat-of binary64 f gyr ts .finite)
+abbrev pub TurnFinite : (w : Format) → Inertial → Type 0
+TurnFinite w f = (gyr : Vector) (ts : Float) → T (gyr-taken w gyr) → T (interval-taken w ts) → T (quat-of w f gyr ts .finite)
 
 -- ---- So it is after any calls from an accepted construction.
 pub record Turns : Type 0 where
   pub half-angle : (w : Format) (p : InertialParams) (gyr-ts acc-ts : Float) (calls : List Call) → T (taken w p gyr-ts acc-ts) → HalfAngleServed w (run w (new w p gyr-ts acc-ts) calls)
-  pub finite : (p : InertialParams) (gyr-ts acc-ts : Float) (calls : List Call) → T (taken binary64 p gyr-ts acc-ts) → TurnFinite (run binary64 (new binary64 p gyr-ts acc-ts) calls)
+  pub finite : (w : Format) (p : InertialParams) (gyr-ts acc-ts : Float) (calls : List Call) → T (taken w p gyr-ts acc-ts) → TurnFinite w (run w (new w p gyr-ts acc-ts) calls)

@@ -2,19 +2,19 @@
 ghost use mathlib.Core.Path.{_≡_};
 ghost use lib.Ieee.{binary64};
 ghost use Rattle.inertial.specs.Kalman.{rotation, smoothed, at-rest, in-motion, unmeasured, measured, raised, widened, innovation, gain, shifted, shrunk, estimated, finite-bias, updated-bias, bias-step};
-use crate::gyr::radians;
 use crate::types::Bias;
 use crate::types::BiasCoefficients;
-use crate::types::Inclination;
 use crate::types::InertialCoefficients;
 use crate::types::InertialParams;
-use crate::types::Rest;
 use algebra::Inverse;
 use algebra::Matrix;
 use algebra::Quaternion;
 use algebra::Vector;
 use filters::Channel;
 use filters::Coeffs;
+use tilt::Inclination;
+use tilt::Rest;
+use tilt::angle::radians;
 
 // The rotation matrix and the first two components of the rotated bias, low-pass filtered.
 pub struct Smooth {
@@ -49,6 +49,41 @@ pub struct TriedBias {
     pub det_not_finite: bool,
     pub finite: bool,
     pub bias: Bias,
+}
+
+// The bias group after an accelerometer sample, from the inclination and the rest after it.
+pub fn bias_step(
+    b: Bias,
+    params: InertialParams,
+    coeffs: InertialCoefficients,
+    i: Inclination,
+    rest: Rest,
+    acc_earth: Vector,
+) -> TriedBias
+    ensures { λ r. ⌜ r ≡ bias-step binary64 b params coeffs i rest «acc_earth» ⌝ }
+{
+    if params.bias.motion_bias_est_enabled | params.rest.rest_bias_est_enabled {
+        let acc_quat = i.acc_quat;
+        let gyr_quat = i.gyr_quat;
+        let r = rotation(acc_quat.times(gyr_quat));
+        let acc_lp = coeffs.acc_lp;
+        let s = smoothed(b, r, params.tau_acc, coeffs.acc_ts, acc_lp);
+        let bias = b.bias;
+        let m = measured(s, params, coeffs, rest, acc_earth, bias);
+        let old = b.bias_p;
+        let c = coeffs.bias;
+        let p = widened(old, c);
+        let clip = radians(params.rest.bias_clip);
+        let next = estimated(bias, p, m, clip);
+        updated_bias(b, s, next)
+    } else {
+        TriedBias {
+            det_too_small: false,
+            det_not_finite: false,
+            finite: true,
+            bias: b,
+        }
+    }
 }
 
 // The rotation matrix of a quaternion.
@@ -91,6 +126,29 @@ fn smoothed(b: Bias, r: Matrix, tau: f64, ts: f64, coeffs: Coeffs) -> Smooth
     }
 }
 
+fn measured(
+    s: Smooth,
+    params: InertialParams,
+    coeffs: InertialCoefficients,
+    rest: Rest,
+    acc_earth: Vector,
+    bias: Vector,
+) -> Measurement
+    ensures { λ m. ⌜ m ≡ measured binary64 s params coeffs rest «acc_earth» bias ⌝ }
+{
+    let c = coeffs.bias;
+    let r = s.r;
+    if rest.rest_detected & params.rest.rest_bias_est_enabled {
+        let gyr_lp = rest.rest_last_gyr_lp;
+        at_rest(gyr_lp, bias, c.bias_rest_w)
+    } else if params.bias.motion_bias_est_enabled {
+        let bias_lp = s.bias_lp;
+        in_motion(r, bias_lp, acc_earth, coeffs.acc_ts, bias, c)
+    } else {
+        unmeasured(r)
+    }
+}
+
 fn at_rest(gyr_lp: Vector, bias: Vector, w: f64) -> Measurement
     ensures { λ r. ⌜ r ≡ at-rest binary64 «gyr_lp» bias w ⌝ }
 {
@@ -126,13 +184,6 @@ fn unmeasured(r: Matrix) -> Measurement
     Measurement { e, w, r }
 }
 
-// The covariance grows by v on the diagonal where it is below p0.
-fn raised(x: f64, c: BiasCoefficients) -> f64
-    ensures { λ r. ⌜ r ≡ raised binary64 x c ⌝ }
-{
-    if x < c.bias_p0 { x + c.bias_v } else { x }
-}
-
 fn widened(p: Matrix, c: BiasCoefficients) -> Matrix
     ensures { λ r. ⌜ r ≡ widened binary64 p c ⌝ }
 {
@@ -141,6 +192,38 @@ fn widened(p: Matrix, c: BiasCoefficients) -> Matrix
     next.m11 = raised(p.m11, c);
     next.m22 = raised(p.m22, c);
     next
+}
+
+// The covariance grows by v on the diagonal where it is below p0.
+fn raised(x: f64, c: BiasCoefficients) -> f64
+    ensures { λ r. ⌜ r ≡ raised binary64 x c ⌝ }
+{
+    if x < c.bias_p0 { x + c.bias_v } else { x }
+}
+
+// The Kalman update from the widened covariance p; nothing is updated where nothing is measured.
+fn estimated(bias: Vector, p: Matrix, m: Measurement, clip: f64) -> KalmanStep
+    ensures { λ r. ⌜ r ≡ estimated binary64 bias p m clip ⌝ }
+{
+    let w = m.w;
+    let r = m.r;
+    let e = m.e;
+    if w.0 >= 0.0 {
+        let inverse = innovation(p, r, w).invert();
+        match inverse {
+            Inverse::TooSmall => KalmanStep::TooSmall,
+            Inverse::NotFinite => KalmanStep::NotFinite,
+            Inverse::Inverted(i) => {
+                let k = gain(p, r, i);
+                let clipped = e.clip(-clip, clip);
+                let next = shifted(bias, k, clipped).clip(-clip, clip);
+                let bias_p = shrunk(p, k, r);
+                KalmanStep::Next(Estimate { bias: next, bias_p })
+            }
+        }
+    } else {
+        KalmanStep::Next(Estimate { bias, bias_p: p })
+    }
 }
 
 // W + R P R^T
@@ -177,67 +260,6 @@ fn shrunk(p: Matrix, k: Matrix, r: Matrix) -> Matrix
     ensures { λ q. ⌜ q ≡ shrunk binary64 p k r ⌝ }
 {
     p.minus(k.times(r).times(p))
-}
-
-// The Kalman update from the widened covariance p; nothing is updated where nothing is measured.
-fn estimated(bias: Vector, p: Matrix, m: Measurement, clip: f64) -> KalmanStep
-    ensures { λ r. ⌜ r ≡ estimated binary64 bias p m clip ⌝ }
-{
-    let w = m.w;
-    let r = m.r;
-    let e = m.e;
-    if w.0 >= 0.0 {
-        let inverse = innovation(p, r, w).invert();
-        match inverse {
-            Inverse::TooSmall => KalmanStep::TooSmall,
-            Inverse::NotFinite => KalmanStep::NotFinite,
-            Inverse::Inverted(i) => {
-                let k = gain(p, r, i);
-                let clipped = e.clip(-clip, clip);
-                let next = shifted(bias, k, clipped).clip(-clip, clip);
-                let bias_p = shrunk(p, k, r);
-                KalmanStep::Next(Estimate { bias: next, bias_p })
-            }
-        }
-    } else {
-        KalmanStep::Next(Estimate { bias, bias_p: p })
-    }
-}
-
-fn finite_bias(b: Bias) -> bool
-    ensures { λ r. ⌜ r ≡ finite-bias b ⌝ }
-{
-    let bias = b.bias;
-    let bias_p = b.bias_p;
-    let rlp = b.motion_bias_est_rlp_state;
-    let lp = b.motion_bias_est_bias_lp_state;
-    bias.finite()
-        & bias_p.finite()
-        & filters::bank::finite_channels9(rlp)
-        & filters::bank::finite_channels2(lp)
-}
-
-fn measured(
-    s: Smooth,
-    params: InertialParams,
-    coeffs: InertialCoefficients,
-    rest: Rest,
-    acc_earth: Vector,
-    bias: Vector,
-) -> Measurement
-    ensures { λ m. ⌜ m ≡ measured binary64 s params coeffs rest «acc_earth» bias ⌝ }
-{
-    let c = coeffs.bias;
-    let r = s.r;
-    if rest.rest_detected & params.rest.rest_bias_est_enabled {
-        let gyr_lp = rest.rest_last_gyr_lp;
-        at_rest(gyr_lp, bias, c.bias_rest_w)
-    } else if params.bias.motion_bias_est_enabled {
-        let bias_lp = s.bias_lp;
-        in_motion(r, bias_lp, acc_earth, coeffs.acc_ts, bias, c)
-    } else {
-        unmeasured(r)
-    }
 }
 
 // The group after the filters and the estimate.
@@ -279,37 +301,15 @@ fn updated_bias(b: Bias, s: Smooth, estimated: KalmanStep) -> TriedBias
     }
 }
 
-// The bias group after an accelerometer sample, from the inclination and the rest after it.
-pub fn bias_step(
-    b: Bias,
-    params: InertialParams,
-    coeffs: InertialCoefficients,
-    i: Inclination,
-    rest: Rest,
-    acc_earth: Vector,
-) -> TriedBias
-    ensures { λ r. ⌜ r ≡ bias-step binary64 b params coeffs i rest «acc_earth» ⌝ }
+fn finite_bias(b: Bias) -> bool
+    ensures { λ r. ⌜ r ≡ finite-bias b ⌝ }
 {
-    if params.bias.motion_bias_est_enabled | params.rest.rest_bias_est_enabled {
-        let acc_quat = i.acc_quat;
-        let gyr_quat = i.gyr_quat;
-        let r = rotation(acc_quat.times(gyr_quat));
-        let acc_lp = coeffs.acc_lp;
-        let s = smoothed(b, r, params.tau_acc, coeffs.acc_ts, acc_lp);
-        let bias = b.bias;
-        let m = measured(s, params, coeffs, rest, acc_earth, bias);
-        let old = b.bias_p;
-        let c = coeffs.bias;
-        let p = widened(old, c);
-        let clip = radians(params.rest.bias_clip);
-        let next = estimated(bias, p, m, clip);
-        updated_bias(b, s, next)
-    } else {
-        TriedBias {
-            det_too_small: false,
-            det_not_finite: false,
-            finite: true,
-            bias: b,
-        }
-    }
+    let bias = b.bias;
+    let bias_p = b.bias_p;
+    let rlp = b.motion_bias_est_rlp_state;
+    let lp = b.motion_bias_est_bias_lp_state;
+    bias.finite()
+        & bias_p.finite()
+        & filters::bank::finite_channels9(rlp)
+        & filters::bank::finite_channels2(lp)
 }

@@ -1,119 +1,51 @@
-// The setters of the inertial half, and what it answers when asked.
+// The setters of the inertial half.
 ghost use mathlib.Core.Path.{_≡_};
 ghost use lib.Ieee.{binary64};
 ghost use Rattle.inertial.specs.Told.{told-of};
-ghost use Rattle.inertial.specs.Setters.{finite-coeffs, adapted-inclination, adapted-bias, retuned, set-tau-acc, set-motion-bias-est-enabled, set-rest-bias-est-enabled, set-mag-dist-rejection-enabled, set-rest-detection-thresholds, variance, bias-taken, sigma-or-none-taken, with-estimate, set-bias-estimate, reset-state, quat-3d, quat-6d, row-sum, bias-estimate, relative-rest-deviations};
-use crate::gyr::radians;
+ghost use Rattle.inertial.specs.Setters.{adapted-bias, retuned, set-tau-acc, set-motion-bias-est-enabled, set-rest-bias-est-enabled, set-mag-dist-rejection-enabled, set-rest-detection-thresholds, variance, bias-taken, sigma-or-none-taken, with-estimate, set-bias-estimate, reset-state};
 use crate::types::Bias;
-use crate::types::Deviations;
-use crate::types::Inclination;
 use crate::types::Inertial;
 use crate::types::InertialState;
-use crate::types::Rest;
 use crate::types::Updated;
 use algebra::Matrix;
-use algebra::Quaternion;
 use algebra::Vector;
 use filters::Channel;
 use filters::Coeffs;
+use floats::PI;
 use limits::Answer;
 use limits::sample;
 use limits::setting;
-
-const PI: f64 = 3.141592653589793;
+use tilt::Rest;
+use tilt::angle::radians;
+use tilt::setters::adapted_inclination;
 
 pub enum Sigma {
     Absent,
     Given(f64),
 }
 
-// A bias and its uncertainty in the worst direction.
-pub struct BiasEstimate {
-    pub bias: Vector,
-    pub sigma: f64,
-}
-
-pub fn finite_coeffs(k: Coeffs) -> bool
-    ensures { λ r. ⌜ r ≡ finite-coeffs k ⌝ }
-{
-    floats::finite(k.b0)
-        & floats::finite(k.b1)
-        & floats::finite(k.b2)
-        & floats::finite(k.a1)
-        & floats::finite(k.a2)
-}
-
-fn adapted_inclination(i: Inclination, old: Coeffs, new: Coeffs) -> Inclination
-    ensures { λ r. ⌜ r ≡ adapted-inclination i old new ⌝ }
-{
-    let last = i.last_acc_lp;
-    let channels = i.acc_lp_state;
-    let adapted = filters::bank::adapt3(last, old, new, channels);
-    let mut next = i;
-    next.acc_lp_state = adapted;
-    next
-}
-
-// The last values of these two filters are not stored: the first memory is close to them.
-fn adapted_bias(b: Bias, old: Coeffs, new: Coeffs) -> Bias
-    ensures { λ r. ⌜ r ≡ adapted-bias binary64 b old new ⌝ }
-{
-    let rlp = b.motion_bias_est_rlp_state;
-    let lp = b.motion_bias_est_bias_lp_state;
-    let next_rlp = filters::bank::adapt9(filters::bank::first_numbers9(rlp), old, new, rlp);
-    let next_lp = filters::bank::adapt2(filters::bank::first_numbers2(lp), old, new, lp);
-    let mut next = b;
-    next.motion_bias_est_rlp_state = next_rlp;
-    next.motion_bias_est_bias_lp_state = next_lp;
-    next
-}
-
-fn variance(sigma: f64) -> f64
-    ensures { λ r. ⌜ r ≡ variance binary64 sigma ⌝ }
-{
-    let s = sigma * (180.0 * 100.0 / PI);
-    s * s
-}
-
-// Each component within the filter's own clip, worked out as the gyro step works it out.
-fn bias_taken(bias: Vector, clip: f64) -> bool
-    ensures { λ r. ⌜ r ≡ bias-taken binary64 clip bias ⌝ }
-{
-    let limit = radians(clip);
-    sample::all_within(bias, limit)
-}
-
-fn sigma_or_none_taken(sigma: Sigma) -> bool
-    ensures { λ r. ⌜ r ≡ sigma-or-none-taken binary64 sigma ⌝ }
-{
-    match sigma {
-        Sigma::Absent => true,
-        Sigma::Given(s) => setting::sigma_taken(s),
-    }
-}
-
-fn with_estimate(b: Bias, bias: Vector, sigma: Sigma) -> Bias
-    ensures { λ r. ⌜ r ≡ with-estimate binary64 b bias sigma ⌝ }
-{
-    let mut next = b;
-    next.bias = bias;
-    match sigma {
-        Sigma::Absent => next,
-        Sigma::Given(s) => {
-            let p = Matrix::diagonal(variance(s));
-            next.bias_p = p;
-            next
+impl Inertial {
+    // How slowly the tilt follows the accelerometer, in seconds.
+    pub fn set_tau_acc(self, tau_acc: f64) -> Updated
+        ensures { λ r. ⌜ told-of r ≡ set-tau-acc binary64 self «tau_acc» ⌝ }
+    {
+        if setting::tau_taken(self.coeffs.acc_ts, tau_acc) {
+            if self.params.tau_acc == tau_acc {
+                Updated {
+                    answer: Answer::Done,
+                    inertial: self,
+                }
+            } else {
+                self.retuned(tau_acc)
+            }
+        } else {
+            Updated {
+                answer: Answer::BadSetting,
+                inertial: self,
+            }
         }
     }
-}
 
-fn row_sum(x: f64, y: f64, z: f64) -> f64
-    ensures { λ r. ⌜ r ≡ row-sum binary64 x y z ⌝ }
-{
-    floats::magnitude(x) + floats::magnitude(y) + floats::magnitude(z)
-}
-
-impl Inertial {
     // The half with a new time constant, where all that it stores is finite.
     fn retuned(self, tau_acc: f64) -> Updated
         ensures { λ r. ⌜ told-of r ≡ retuned binary64 self «tau_acc» ⌝ }
@@ -127,7 +59,7 @@ impl Inertial {
         let acc = inclination.acc_lp_state;
         let rlp = bias.motion_bias_est_rlp_state;
         let lp = bias.motion_bias_est_bias_lp_state;
-        if finite_coeffs(new)
+        if filters::finite_coeffs(new)
             & filters::bank::finite_channels3(acc)
             & filters::bank::finite_channels9(rlp)
             & filters::bank::finite_channels2(lp)
@@ -150,26 +82,6 @@ impl Inertial {
         } else {
             Updated {
                 answer: Answer::NotFinite,
-                inertial: self,
-            }
-        }
-    }
-
-    pub fn set_tau_acc(self, tau_acc: f64) -> Updated
-        ensures { λ r. ⌜ told-of r ≡ set-tau-acc binary64 self «tau_acc» ⌝ }
-    {
-        if setting::tau_taken(tau_acc, self.coeffs.acc_ts) {
-            if self.params.tau_acc == tau_acc {
-                Updated {
-                    answer: Answer::Done,
-                    inertial: self,
-                }
-            } else {
-                self.retuned(tau_acc)
-            }
-        } else {
-            Updated {
-                answer: Answer::BadSetting,
                 inertial: self,
             }
         }
@@ -234,6 +146,7 @@ impl Inertial {
         next
     }
 
+    // The deviations from which a sample is not quiet: in °/s and in m/s².
     pub fn set_rest_detection_thresholds(self, th_gyr: f64, th_acc: f64) -> Updated
         ensures { λ r. ⌜ told-of r ≡ set-rest-detection-thresholds binary64 self «th_gyr» «th_acc» ⌝ }
     {
@@ -257,10 +170,11 @@ impl Inertial {
         }
     }
 
+    // The gyro bias in rad/s, with a standard deviation in rad/s or the covariance that there is.
     pub fn set_bias_estimate(self, bias: Vector, sigma: Sigma) -> Updated
         ensures { λ r. ⌜ told-of r ≡ set-bias-estimate binary64 self bias sigma ⌝ }
     {
-        if bias_taken(bias, self.params.rest.bias_clip) & sigma_or_none_taken(sigma) {
+        if bias_taken(self.params.rest.bias_clip, bias) & sigma_or_none_taken(sigma) {
             let b = self.state.bias;
             let next_bias = with_estimate(b, bias, sigma);
             let mut state = self.state;
@@ -279,6 +193,7 @@ impl Inertial {
         }
     }
 
+    // The state of a filter just built with the settings as they are now.
     pub fn reset_state(self) -> Inertial
         ensures { λ r. ⌜ r ≡ reset-state binary64 self ⌝ }
     {
@@ -287,45 +202,57 @@ impl Inertial {
         next.state = state;
         next
     }
+}
 
-    pub fn quat_3d(self) -> Quaternion
-        ensures { λ r. ⌜ r ≡ quat-3d self ⌝ }
-    {
-        self.state.inclination.gyr_quat
+// The last values of these two filters are not stored: the first memory is close to them.
+fn adapted_bias(b: Bias, old: Coeffs, new: Coeffs) -> Bias
+    ensures { λ r. ⌜ r ≡ adapted-bias binary64 b old new ⌝ }
+{
+    let rlp = b.motion_bias_est_rlp_state;
+    let lp = b.motion_bias_est_bias_lp_state;
+    let next_rlp = filters::bank::adapt9(filters::bank::first_numbers9(rlp), old, new, rlp);
+    let next_lp = filters::bank::adapt2(filters::bank::first_numbers2(lp), old, new, lp);
+    let mut next = b;
+    next.motion_bias_est_rlp_state = next_rlp;
+    next.motion_bias_est_bias_lp_state = next_lp;
+    next
+}
+
+// Each component within the filter's own clip, worked out as the gyro step works it out.
+fn bias_taken(clip: f64, bias: Vector) -> bool
+    ensures { λ r. ⌜ r ≡ bias-taken binary64 clip bias ⌝ }
+{
+    let limit = radians(clip);
+    sample::all_within(limit, bias)
+}
+
+fn sigma_or_none_taken(sigma: Sigma) -> bool
+    ensures { λ r. ⌜ r ≡ sigma-or-none-taken binary64 sigma ⌝ }
+{
+    match sigma {
+        Sigma::Absent => true,
+        Sigma::Given(s) => setting::sigma_taken(s),
     }
+}
 
-    pub fn quat_6d(self) -> Quaternion
-        ensures { λ r. ⌜ r ≡ quat-6d binary64 self ⌝ }
-    {
-        let acc_quat = self.state.inclination.acc_quat;
-        let gyr_quat = self.state.inclination.gyr_quat;
-        acc_quat.times(gyr_quat)
-    }
-
-    // The largest row sum bounds the largest eigenvalue.
-    pub fn bias_estimate(self) -> BiasEstimate
-        ensures { λ r. ⌜ r ≡ bias-estimate binary64 self ⌝ }
-    {
-        let m = self.state.bias.bias_p;
-        let sum1 = row_sum(m.m00, m.m01, m.m02);
-        let sum2 = row_sum(m.m10, m.m11, m.m12);
-        let sum3 = row_sum(m.m20, m.m21, m.m22);
-        let most = floats::larger(floats::larger(sum1, sum2), sum3);
-        let p = floats::smaller(most, self.coeffs.bias.bias_p0);
-        let bias = self.state.bias.bias;
-        BiasEstimate {
-            bias,
-            sigma: numbers::sqrt(p) * (PI / 100.0 / 180.0),
+fn with_estimate(b: Bias, bias: Vector, sigma: Sigma) -> Bias
+    ensures { λ r. ⌜ r ≡ with-estimate binary64 b bias sigma ⌝ }
+{
+    let mut next = b;
+    next.bias = bias;
+    match sigma {
+        Sigma::Absent => next,
+        Sigma::Given(s) => {
+            let p = Matrix::diagonal(variance(s));
+            next.bias_p = p;
+            next
         }
     }
+}
 
-    pub fn relative_rest_deviations(self) -> Deviations
-        ensures { λ r. ⌜ r ≡ relative-rest-deviations binary64 self ⌝ }
-    {
-        let d = self.state.rest.rest_last_squared_deviations;
-        Deviations(
-            numbers::sqrt(d.0) / radians(self.params.rest.rest_th_gyr),
-            numbers::sqrt(d.1) / self.params.rest.rest_th_acc,
-        )
-    }
+fn variance(sigma: f64) -> f64
+    ensures { λ r. ⌜ r ≡ variance binary64 sigma ⌝ }
+{
+    let s = sigma * (180.0 * 100.0 / PI);
+    s * s
 }

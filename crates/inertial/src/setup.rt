@@ -1,24 +1,23 @@
 // The coefficients and the fresh state of settings, and which settings are taken.
 ghost use mathlib.Core.Path.{_≡_};
 ghost use lib.Ieee.{binary64};
-ghost use Rattle.inertial.specs.Setup.{house, rest-params-taken, bias-params-taken, taken, bias-coefficients, setup, fresh-rest, fresh-state, new};
+ghost use Rattle.inertial.specs.Setup.{house, bias-params-taken, taken, bias-coefficients, setup, fresh-state, new};
 use crate::types::Bias;
 use crate::types::BiasCoefficients;
 use crate::types::BiasParams;
-use crate::types::Deviations;
-use crate::types::Inclination;
 use crate::types::Inertial;
 use crate::types::InertialCoefficients;
 use crate::types::InertialParams;
 use crate::types::InertialState;
-use crate::types::Rest;
-use crate::types::RestParams;
 use algebra::Matrix;
-use algebra::Quaternion;
 use algebra::Vector;
 use filters::Channel;
 use limits::sample;
 use limits::setting;
+use tilt::Inclination;
+use tilt::Rest;
+use tilt::RestParams;
+use tilt::setup::rest_params_taken;
 
 impl InertialParams {
     pub const HOUSE: InertialParams = InertialParams {
@@ -42,6 +41,7 @@ impl InertialParams {
         },
     };
 
+    // The house settings.
     pub fn house() -> InertialParams
         ensures { λ r. ⌜ r ≡ house binary64 ⌝ }
     {
@@ -49,14 +49,17 @@ impl InertialParams {
     }
 }
 
-fn rest_params_taken(p: RestParams, gyr_ts: f64, acc_ts: f64) -> bool
-    ensures { λ r. ⌜ r ≡ rest-params-taken binary64 p «gyr_ts» «acc_ts» ⌝ }
+// Whether the intervals and the settings are within their limits.
+pub fn taken(p: InertialParams, gyr_ts: f64, acc_ts: f64) -> bool
+    ensures { λ r. ⌜ r ≡ taken binary64 p «gyr_ts» «acc_ts» ⌝ }
 {
-    setting::threshold_taken(p.bias_clip)
-        & setting::duration_taken(p.rest_min_t)
-        & setting::tau_taken(p.rest_filter_tau, floats::larger(gyr_ts, acc_ts))
-        & setting::threshold_taken(p.rest_th_gyr)
-        & setting::threshold_taken(p.rest_th_acc)
+    let rest = p.rest;
+    let bias = p.bias;
+    sample::interval_taken(gyr_ts)
+        & sample::interval_taken(acc_ts)
+        & setting::tau_taken(acc_ts, p.tau_acc)
+        & rest_params_taken(rest, gyr_ts, acc_ts)
+        & bias_params_taken(bias)
 }
 
 fn bias_params_taken(p: BiasParams) -> bool
@@ -69,17 +72,37 @@ fn bias_params_taken(p: BiasParams) -> bool
         & setting::sigma_taken(p.bias_sigma_rest)
 }
 
-// Whether the intervals and the settings are within their limits.
-pub fn taken(p: InertialParams, gyr_ts: f64, acc_ts: f64) -> bool
-    ensures { λ r. ⌜ r ≡ taken binary64 p «gyr_ts» «acc_ts» ⌝ }
+impl Inertial {
+    // The half that settings and intervals within their limits give.
+    pub fn new(params: InertialParams, gyr_ts: f64, acc_ts: f64) -> Inertial
+        ensures { λ r. ⌜ r ≡ new binary64 params «gyr_ts» «acc_ts» ⌝ }
+    {
+        let coeffs = setup(params, gyr_ts, acc_ts);
+        let state = InertialState::fresh(coeffs.bias.bias_p0);
+        Inertial {
+            params,
+            coeffs,
+            state,
+        }
+    }
+}
+
+fn setup(p: InertialParams, gyr_ts: f64, acc_ts: f64) -> InertialCoefficients
+    ensures { λ r. ⌜ r ≡ setup binary64 p «gyr_ts» «acc_ts» ⌝ }
 {
-    let rest = p.rest;
-    let bias = p.bias;
-    sample::interval_taken(gyr_ts)
-        & sample::interval_taken(acc_ts)
-        & setting::tau_taken(p.tau_acc, acc_ts)
-        & rest_params_taken(rest, gyr_ts, acc_ts)
-        & bias_params_taken(bias)
+    let bias_params = p.bias;
+    let acc_lp = filters::filter_coeffs(p.tau_acc, acc_ts);
+    let bias = bias_coefficients(bias_params, acc_ts);
+    let rest_gyr_lp = filters::filter_coeffs(p.rest.rest_filter_tau, gyr_ts);
+    let rest_acc_lp = filters::filter_coeffs(p.rest.rest_filter_tau, acc_ts);
+    InertialCoefficients {
+        gyr_ts,
+        acc_ts,
+        acc_lp,
+        rest_gyr_lp,
+        rest_acc_lp,
+        bias,
+    }
 }
 
 fn bias_coefficients(p: BiasParams, acc_ts: f64) -> BiasCoefficients
@@ -104,55 +127,14 @@ fn bias_coefficients(p: BiasParams, acc_ts: f64) -> BiasCoefficients
     }
 }
 
-fn setup(p: InertialParams, gyr_ts: f64, acc_ts: f64) -> InertialCoefficients
-    ensures { λ r. ⌜ r ≡ setup binary64 p «gyr_ts» «acc_ts» ⌝ }
-{
-    let bias_params = p.bias;
-    let acc_lp = filters::filter_coeffs(p.tau_acc, acc_ts);
-    let bias = bias_coefficients(bias_params, acc_ts);
-    let rest_gyr_lp = filters::filter_coeffs(p.rest.rest_filter_tau, gyr_ts);
-    let rest_acc_lp = filters::filter_coeffs(p.rest.rest_filter_tau, acc_ts);
-    InertialCoefficients {
-        gyr_ts,
-        acc_ts,
-        acc_lp,
-        rest_gyr_lp,
-        rest_acc_lp,
-        bias,
-    }
-}
-
-impl Rest {
-    pub fn fresh() -> Rest
-        ensures { λ r. ⌜ r ≡ fresh-rest binary64 ⌝ }
-    {
-        let channels = [Channel::FRESH; 3];
-        Rest {
-            rest_detected: false,
-            rest_last_squared_deviations: Deviations(0.0, 0.0),
-            rest_t: 0.0,
-            rest_last_gyr_lp: Vector(0.0, 0.0, 0.0),
-            rest_gyr_lp_state: channels,
-            rest_last_acc_lp: Vector(0.0, 0.0, 0.0),
-            rest_acc_lp_state: channels,
-        }
-    }
-}
-
 impl InertialState {
+    // Before the first sample.
     pub fn fresh(bias_p0: f64) -> InertialState
         ensures { λ r. ⌜ r ≡ fresh-state binary64 «bias_p0» ⌝ }
     {
         let channels2 = [Channel::FRESH; 2];
-        let channels3 = [Channel::FRESH; 3];
         let channels9 = [Channel::FRESH; 9];
-        let inclination = Inclination {
-            gyr_quat: Quaternion::IDENTITY,
-            acc_quat: Quaternion::IDENTITY,
-            last_acc_lp: Vector(0.0, 0.0, 0.0),
-            acc_lp_state: channels3,
-            last_acc_corr_angular_rate: 0.0,
-        };
+        let inclination = Inclination::fresh();
         let bias_p = Matrix::diagonal(bias_p0);
         let bias = Bias {
             bias: Vector(0.0, 0.0, 0.0),
@@ -165,21 +147,6 @@ impl InertialState {
             inclination,
             bias,
             rest,
-        }
-    }
-}
-
-impl Inertial {
-    // The half that settings and intervals within their limits give.
-    pub fn new(params: InertialParams, gyr_ts: f64, acc_ts: f64) -> Inertial
-        ensures { λ r. ⌜ r ≡ new binary64 params «gyr_ts» «acc_ts» ⌝ }
-    {
-        let coeffs = setup(params, gyr_ts, acc_ts);
-        let state = InertialState::fresh(coeffs.bias.bias_p0);
-        Inertial {
-            params,
-            coeffs,
-            state,
         }
     }
 }

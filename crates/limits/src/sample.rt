@@ -10,45 +10,50 @@ const ACC_LIMIT: f64 = 1000.0;
 
 const MAG_LIMIT: f64 = 1000000.0;
 
-const SHORTEST: f64 = 0.0001;
+const SHORTEST_INTERVAL: f64 = 0.0001;
 
-const LONGEST: f64 = 1.0;
+const LONGEST_INTERVAL: f64 = 1.0;
 
-pub fn within(x: f64, lo: f64, hi: f64) -> bool
+// Whether x lies from lo to hi.
+pub fn within(lo: f64, hi: f64, x: f64) -> bool
     ensures { λ r. ⌜ r ≡ within lo hi x ⌝ }
 {
     (lo <= x) & (x <= hi)
 }
 
 // Every component within ±limit.
-pub fn all_within(v: Vector, limit: f64) -> bool
+pub fn all_within(limit: f64, v: Vector) -> bool
     ensures { λ r. ⌜ r ≡ all-within limit v ⌝ }
 {
-    within(v.0, -limit, limit) & within(v.1, -limit, limit) & within(v.2, -limit, limit)
+    within(-limit, limit, v.0) & within(-limit, limit, v.1) & within(-limit, limit, v.2)
 }
 
+// A gyro sample in rad/s: up to 200 in each place.
 pub fn gyr_taken(gyr: Vector) -> bool
     ensures { λ r. ⌜ r ≡ gyr-taken binary64 gyr ⌝ }
 {
-    all_within(gyr, GYR_LIMIT)
+    all_within(GYR_LIMIT, gyr)
 }
 
+// An accelerometer sample in m/s²: up to 1000 in each place.
 pub fn acc_taken(acc: Vector) -> bool
     ensures { λ r. ⌜ r ≡ acc-taken binary64 acc ⌝ }
 {
-    all_within(acc, ACC_LIMIT)
+    all_within(ACC_LIMIT, acc)
 }
 
+// A magnetometer sample in any unit: up to 1,000,000 in each place.
 pub fn mag_taken(mag: Vector) -> bool
     ensures { λ r. ⌜ r ≡ mag-taken binary64 mag ⌝ }
 {
-    all_within(mag, MAG_LIMIT)
+    all_within(MAG_LIMIT, mag)
 }
 
+// A sampling interval in seconds: 0.0001 to 1.
 pub fn interval_taken(ts: f64) -> bool
     ensures { λ r. ⌜ r ≡ interval-taken binary64 ts ⌝ }
 {
-    within(ts, SHORTEST, LONGEST)
+    within(SHORTEST_INTERVAL, LONGEST_INTERVAL, ts)
 }
 
 // All zero, of either sign.

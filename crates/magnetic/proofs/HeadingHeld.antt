@@ -22,11 +22,7 @@ use Rattle.filters.proofs.Gains.{none-or-all}
 use Rattle.limits.specs.Limits.{rejection-factor-limit}
 use Rattle.magnetic.specs.Headings.{wrapped, rejected, lifted, next-init, corrected, finite-heading}
 use Rattle.magnetic.specs.HowFar.{Angle, Moved}
-use Rattle.magnetic.specs.declared.types.Field.{Field}
-use Rattle.magnetic.specs.declared.types.Heading.{Heading}
-use Rattle.magnetic.specs.declared.types.MagneticCoefficients.{MagneticCoefficients}
-use Rattle.magnetic.specs.declared.types.MagneticParams.{MagneticParams}
-use Rattle.magnetic.specs.declared.heading.Rejection.{Rejection}
+use Rattle.magnetic.specs.Types.{Field, Heading, MagneticCoefficients, MagneticParams, Rejection}
 
 -- ---- what the prover computes in each format
 module _ (w : Format) where

@@ -8,7 +8,7 @@ use lib.Ieee.Scale.{finite}
 use Rattle.floats.specs.Notation.{Rounded, rounded, zero, one}
 use Rattle.floats.specs.Tests.{both, keeps}
 use Rattle.floats.specs.Clamps.{cond-within}
-use Rattle.numbers.proofs.Narrowed.{angle-within}
+use Rattle.numbers.proofs.Ranges.{angle-within}
 use Rattle.algebra.specs.Quaternions.{rotate}
 use Rattle.algebra.specs.declared.vector.Vector.{Vector}
 use Rattle.filters.specs.Bounds.{Gain}
@@ -19,17 +19,13 @@ use Rattle.limits.specs.Answers.{Told}
 use Rattle.limits.specs.Limits.{least-tau, mag-taken, zero-sample, gain-tau-taken, ref-norm-taken, ref-dip-taken}
 use Rattle.magnetic.specs.Headings.{wrapped, lifted, corrected}
 use Rattle.magnetic.specs.HowFar.{gain-rejecting, gain-used, Moved}
-use Rattle.magnetic.specs.Setup.{taken, taus-taken, thresholds-taken, times-taken, setup, fresh-state, new}
+use Rattle.magnetic.specs.Setup.{taken, setup, fresh-state, new}
 use Rattle.magnetic.specs.Setters.{set-tau-mag, set-mag-ref, restarted, reset-state}
+use Rattle.magnetic.specs.Calls as calls
 use Rattle.magnetic.specs.Step.{tried-rejecting, tried-plain, tried, mag-step, update-mag}
-use Rattle.magnetic.specs.declared.types.Magnetic.{Magnetic}
-use Rattle.magnetic.specs.declared.types.MagneticCoefficients.{MagneticCoefficients}
-use Rattle.magnetic.specs.declared.types.MagneticParams.{MagneticParams}
-use Rattle.magnetic.specs.declared.types.MagneticState.{MagneticState}
-use Rattle.magnetic.specs.declared.types.Seen.{Seen}
-use Rattle.magnetic.specs.declared.step.TriedState.{TriedState}
+use Rattle.magnetic.specs.Types.{Magnetic, MagneticCoefficients, MagneticParams, MagneticState, Seen, TriedState}
 use Rattle.magnetic.proofs.Answers.{answers}
-use Rattle.magnetic.proofs.Construction.{tau-or-off}
+use Rattle.magnetic.proofs.Construction.{tau-or-off, opened}
 use Rattle.magnetic.proofs.HeadingHeld.{Headed, HeadingHeld, rejected-within, lifted-within, corrected-held, moved}
 use Rattle.magnetic.proofs.TimesHeld.{TimesSet, Times, TimesHeld, restarted-held, field-held, rejected-held}
 
@@ -56,14 +52,14 @@ module _ (w : Format) where
       Holds w (f .params) (f .coeffs) (h .delta) (h .«last_mag_dis_angle») (h .«k_mag_init») (g .«mag_reject_t») (g .«mag_undisturbed_t») (g .«mag_candidate_t») (g .«mag_norm_dip_lp_state»)
 
   pub new-held : (p : MagneticParams) (ts : Float) → T (taken w p ts) → Held (new w p ts)
-  unfolding new setup fresh-state taken taus-taken thresholds-taken times-taken
-  new-held p ts t =
-      let h = simp both at t in
-      let s : TimesSet w p (setup w p ts) = record { interval = h .0 .0 .0; factor = h .0 .1 .1; longest = h .1 .1; least = h .1 .0 .1 } in
+  unfolding new setup fresh-state
+  new-held p ts taken =
+      let t = opened w p ts taken in
+      let s : TimesSet w p (setup w p ts) = record { interval = t .interval; factor = t .factor; longest = t .rejection; least = t .undisturbed } in
       record {
         set = s;
-        gain = gain-within w (p .«tau_mag») ts (h .0 .0 .0) (tau-or-off w (least-tau w) (p .«tau_mag») (h .0 .0 .1 .0 .0));
-        gain-ref = gain-within w (p .«mag_ref_tau») ts (h .0 .0 .0) (tau-or-off w (least-tau w) (p .«mag_ref_tau») (h .0 .0 .1 .1));
+        gain = gain-within w (p .«tau_mag») ts (t .interval) (t .tau-mag);
+        gain-ref = gain-within w (p .«mag_ref_tau») ts (t .interval) (t .ref-tau);
         heading = fresh-held w p;
         times = restarted-held w p (setup w p ts) s _;
       }
@@ -94,7 +90,7 @@ module _ (w : Format) where
     unfolding tried
     tried-held seen mag = keeps TriedHeld (seen .«mag_dist_rejection_enabled») _ _ (λ _. rejecting-held _ _) (plain-held _)
 
-    pub mag-held : (seen : Seen) (mag : Vector) → Left (update-mag w f seen mag)
+    mag-held : (seen : Seen) (mag : Vector) → Left (update-mag w f seen mag)
     unfolding update-mag mag-step
     mag-held seen mag =
         keeps Left (mag-taken w mag) _ _
@@ -104,7 +100,7 @@ module _ (w : Format) where
         h
 
     -- ---- the setters
-    pub tau-held : (tau : Float) → Left (set-tau-mag w f tau)
+    tau-held : (tau : Float) → Left (set-tau-mag w f tau)
     unfolding set-tau-mag
     tau-held tau =
         let s = h .set in
@@ -119,10 +115,16 @@ module _ (w : Format) where
         }) h)
         h
 
-    pub ref-held : (norm dip : Float) → Left (set-mag-ref w f norm dip)
+    ref-held : (norm dip : Float) → Left (set-mag-ref w f norm dip)
     unfolding set-mag-ref
     ref-held norm dip = keeps Left (ref-norm-taken w norm && ref-dip-taken w dip) _ _ (λ _. h) h
 
+    pub call-held : (seen : Seen) (c : calls.Call) → Left (calls.reply w f seen c)
+    call-held seen (calls.update-mag v) = mag-held seen v
+    call-held seen (calls.set-tau-mag tau) = tau-held tau
+    call-held seen (calls.set-mag-ref norm dip) = ref-held norm dip
+
+    -- ---- what acts on both halves
     pub switched-held : Held (restarted w f)
     unfolding restarted
     switched-held = record { set = h .set; gain = h .gain; gain-ref = h .gain-ref; heading = h .heading; times = restarted-held w (f .params) (f .coeffs) (h .set) _ }

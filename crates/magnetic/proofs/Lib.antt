@@ -1,3 +1,4 @@
+pub mod Parts
 pub mod Construction
 pub mod Tested
 pub mod FiniteCalls

@@ -1,36 +1,24 @@
 -- A magnetometer step and a change of `tau_mag` test exactly the numbers that they store; all else is kept. So, on a filter that holds finite numbers,
 -- the tests say whether what the call would leave is finite.
 use mathlib.Core.Path.{_≡_}
-use mathlib.Core.Logic.{_⊎_, inl, inr}
 use lib.Dec.{T}
-use lib.Ieee.{Float, Format, binary32, binary64, ofBits, neg}
+use lib.Ieee.{Float, Format, ofBits}
 use lib.Ieee.Scale.{finite}
-use Rattle.floats.specs.Notation.{zero}
-use Rattle.floats.specs.Tests.{both, either, is-true, alike, keeps}
-use Rattle.floats.specs.Order.{within-finite, neg-finite}
+use Rattle.floats.specs.Tests.{both, is-true, alike, keeps}
+use Rattle.floats.specs.Order.{each-finite}
 use Rattle.algebra.specs.declared.vector.Vector.{Vector}
 use Rattle.filters.specs.Coefficients.{gain-from-tau}
-use Rattle.limits.specs.Limits.{longest, least-tau, within, tau-or-off-taken, gain-tau-taken}
+use Rattle.limits.specs.Limits.{least-tau, gain-tau-taken}
 use Rattle.magnetic.specs.AllFinite.{finite-params, finite-coefficients, finite-state, all-finite}
 use Rattle.magnetic.specs.Step.{tried-rejecting, tried-plain, tried}
 use Rattle.magnetic.specs.Setters.{with-tau-mag, with-k-mag}
 use Rattle.magnetic.specs.Answers.{after-mag, after-tau-mag}
-use Rattle.magnetic.specs.declared.types.Magnetic.{Magnetic}
-use Rattle.magnetic.specs.declared.types.MagneticCoefficients.{MagneticCoefficients}
-use Rattle.magnetic.specs.declared.types.MagneticParams.{MagneticParams}
-use Rattle.magnetic.specs.declared.types.MagneticState.{MagneticState}
-use Rattle.magnetic.specs.declared.types.Seen.{Seen}
-use Rattle.magnetic.specs.declared.step.TriedState.{TriedState}
+use Rattle.magnetic.specs.Types.{Magnetic, MagneticCoefficients, MagneticParams, MagneticState, Seen, TriedState}
+use Rattle.magnetic.proofs.Construction.{tau-or-off, either-finite}
 
 -- ---- the step
 abbrev Tested : TriedState → Type 0
 Tested t = (T (t .finite) → T (finite-state (t .state))) × (T (finite-state (t .state)) → T (t .finite))
-
--- ---- the limits of a time constant
-ends-finite : (w : Format) → T (finite (zero w)) × T (finite (least-tau w)) × T (finite (longest w))
-unfolding ofBits
-ends-finite binary32 = (tt, tt, tt)
-ends-finite binary64 = (tt, tt, tt)
 
 module _ (w : Format) where
   rejecting-tested : (s : MagneticState) (p : MagneticParams) (c : MagneticCoefficients) (mag-earth gyr-lp : Vector) → Tested (tried-rejecting w s p c mag-earth gyr-lp)
@@ -55,12 +43,8 @@ module _ (w : Format) where
 
   -- ---- a change of `tau_mag`
   tau-finite : (tau : Float) → T (gain-tau-taken w tau) → T (finite tau)
-  unfolding tau-or-off-taken
-  tau-finite tau t = go (either (within (neg (longest w)) (zero w) tau) (within (least-tau w) (longest w) tau) t)
-    where
-      go : T (within (neg (longest w)) (zero w) tau) ⊎ T (within (least-tau w) (longest w) tau) → T (finite tau)
-      go (inl h) = let e = ends-finite w in within-finite tau (neg (longest w)) (zero w) (neg-finite (longest w) (e .2)) (e .0) (simp both at h)
-      go (inr h) = let e = ends-finite w in within-finite tau (least-tau w) (longest w) (e .1) (e .2) (simp both at h)
+  unfolding ofBits
+  tau-finite tau t = either-finite w (least-tau w) tau (each-finite least-tau tt w) (tau-or-off w (least-tau w) tau t)
 
   params-with-tau : (p : MagneticParams) (tau : Float) → T (finite-params p) → T (finite tau) → T (finite-params (with-tau-mag p tau))
   unfolding finite-params

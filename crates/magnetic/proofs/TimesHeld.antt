@@ -21,20 +21,15 @@ use Rattle.algebra.specs.declared.vector.Vector.{Vector}
 use Rattle.filters.specs.Banks.{filter-vec2}
 use Rattle.filters.specs.Counts.{all-from-zero}
 use Rattle.filters.specs.declared.channel.Channel.{Channel}
-use Rattle.filters.proofs.Gains.{Interval}
+use Rattle.filters.specs.Bounds.{Interval}
 use Rattle.filters.proofs.Counts.{channels-from-zero, fresh-from-zero}
 use Rattle.limits.specs.Limits.{rejection-factor-limit}
 use Rattle.magnetic.specs.Fields.{smoothed, near, undisturbed, reference-step, candidate-time, counted-candidate, accepted, candidate-step, field-step, norm-and-dip}
 use Rattle.magnetic.specs.Headings.{rejected}
 use Rattle.magnetic.specs.Setup.{restarted-field}
 use Rattle.magnetic.specs.Told.{with-reject-t}
-use Rattle.magnetic.specs.declared.types.Field.{Field}
-use Rattle.magnetic.specs.declared.types.MagneticCoefficients.{MagneticCoefficients}
-use Rattle.magnetic.specs.declared.types.MagneticParams.{MagneticParams}
-use Rattle.magnetic.specs.declared.types.NormDip.{NormDip}
-use Rattle.magnetic.specs.declared.types.Smoothing.{Smoothing}
+use Rattle.magnetic.specs.Types.{Field, MagneticCoefficients, MagneticParams, NormDip, Smoothing, Rejection}
 use Rattle.magnetic.specs.declared.types.Smoothing.the-variants.{Absent, Present}
-use Rattle.magnetic.specs.declared.heading.Rejection.{Rejection}
 use Rattle.magnetic.proofs.HeadingHeld.{Factor}
 
 -- ---- what the prover computes in each format

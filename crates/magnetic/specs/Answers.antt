@@ -5,11 +5,13 @@ use lib.Dec.{T}
 use lib.Ieee.{Float, Format}
 use Rattle.algebra.specs.declared.vector.Vector.{Vector}
 use Rattle.filters.specs.Coefficients.{gain-from-tau}
+use Rattle.limits.specs.Answers.{Kept}
 use Rattle.limits.specs.Table.{Faults, setting-fault, Exactly}
 use Rattle.limits.specs.Limits.{mag-taken, zero-sample, gain-tau-taken, ref-norm-taken, ref-dip-taken}
 use Rattle.magnetic.specs.Told.{with-state}
-use Rattle.magnetic.specs.Step.{tried, update-mag}
-use Rattle.magnetic.specs.Setters.{with-tau-mag, with-k-mag, set-tau-mag, set-mag-ref}
+use Rattle.magnetic.specs.Step.{tried}
+use Rattle.magnetic.specs.Setters.{with-tau-mag, with-k-mag}
+use Rattle.magnetic.specs.Calls.{Call, update-mag, set-tau-mag, set-mag-ref, reply}
 use Rattle.magnetic.specs.AllFinite.{all-finite}
 use Rattle.magnetic.specs.declared.types.Magnetic.{Magnetic}
 use Rattle.magnetic.specs.declared.types.Seen.{Seen}
@@ -44,13 +46,17 @@ module _ (w : Format) where
     not-finite = not (all-finite (after-tau-mag f tau));
   }
 
-  abbrev pub mag-ref-faults : Float → Float → Faults
-  mag-ref-faults norm dip = setting-fault (not (ref-norm-taken w norm && ref-dip-taken w dip))
+  abbrev pub faults : Magnetic → Seen → Call → Faults
+  faults f seen (update-mag mag) = mag-faults f seen mag
+  faults f seen (set-tau-mag tau) = tau-mag-faults f tau
+  faults f seen (set-mag-ref norm dip) = setting-fault (not (ref-norm-taken w norm && ref-dip-taken w dip))
 
   -- on a filter that holds finite numbers, each call's answer is exactly the table's; and what a call would leave is what it leaves
   pub record Answers : Type 0 where
-    pub mag : (f : Magnetic) (seen : Seen) (v : Vector) → T (all-finite f) → Exactly (mag-faults f seen v) (update-mag w f seen v .number)
-    pub tau-mag : (f : Magnetic) (tau : Float) → T (all-finite f) → Exactly (tau-mag-faults f tau) (set-tau-mag w f tau .number)
-    pub mag-ref : (f : Magnetic) (norm dip : Float) → Exactly (mag-ref-faults norm dip) (set-mag-ref w f norm dip .number)
-    pub mag-leaves : (f : Magnetic) (seen : Seen) (v : Vector) → update-mag w f seen v .number ≡ 0 → update-mag w f seen v .left ≡ after-mag f seen v
-    pub tau-mag-leaves : (f : Magnetic) (tau : Float) → set-tau-mag w f tau .number ≡ 0 → set-tau-mag w f tau .left ≡ after-tau-mag f tau
+    pub by-table : (f : Magnetic) (seen : Seen) (c : Call) → T (all-finite f) → Exactly (faults f seen c) (reply w f seen c .number)
+    -- a reference is asked for its limits, whatever the filter holds
+    pub mag-ref : (f : Magnetic) (seen : Seen) (norm dip : Float) → let c = set-mag-ref norm dip in Exactly (faults f seen c) (reply w f seen c .number)
+    -- a refused call leaves the half as it was
+    pub kept : (f : Magnetic) (seen : Seen) (c : Call) → Kept f (reply w f seen c)
+    pub mag-leaves : (f : Magnetic) (seen : Seen) (v : Vector) → let t = reply w f seen (update-mag v) in t .number ≡ 0 → t .left ≡ after-mag f seen v
+    pub tau-mag-leaves : (f : Magnetic) (seen : Seen) (tau : Float) → let t = reply w f seen (set-tau-mag tau) in t .number ≡ 0 → t .left ≡ after-tau-mag f tau

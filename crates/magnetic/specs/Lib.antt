@@ -1,3 +1,4 @@
+pub mod Types
 pub mod Told
 pub mod Fields
 pub mod Headings
@@ -7,5 +8,6 @@ pub mod Setters
 pub mod Decimals
 pub mod AllFinite
 pub mod Construction
+pub mod Calls
 pub mod Answers
 pub mod HowFar

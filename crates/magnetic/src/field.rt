@@ -9,8 +9,7 @@ use crate::types::MagneticParams;
 use crate::types::NormDip;
 use crate::types::Smoothing;
 use algebra::Vector;
-
-const PI: f64 = 3.141592653589793;
+use floats::PI;
 
 fn norm_and_dip(mag_earth: Vector) -> NormDip
     ensures { λ r. ⌜ r ≡ norm-and-dip binary64 «mag_earth» ⌝ }
@@ -172,6 +171,7 @@ pub fn field_step(
     candidate_step(known, p, c, gyr_lp.norm())
 }
 
+// Whether all that the field group stores is finite.
 pub fn finite_field(f: Field) -> bool
     ensures { λ r. ⌜ r ≡ finite-field f ⌝ }
 {

@@ -7,8 +7,7 @@ use crate::types::Field;
 use crate::types::Heading;
 use crate::types::MagneticCoefficients;
 use crate::types::MagneticParams;
-
-const PI: f64 = 3.141592653589793;
+use floats::PI;
 
 // A gain, and the field with its rejection time.
 pub struct Rejection {
@@ -90,6 +89,7 @@ pub fn corrected(h: Heading, angle: f64, k: f64, tau_mag: f64, mag_ts: f64) -> H
     }
 }
 
+// Whether all that the heading group stores is finite.
 pub fn finite_heading(h: Heading) -> bool
     ensures { λ r. ⌜ r ≡ finite-heading h ⌝ }
 {

@@ -11,6 +11,7 @@ use limits::Answer;
 use limits::setting;
 
 impl Magnetic {
+    // How slowly the heading follows the magnetometer, in seconds; 0: at once; below 0: not, but for the first sample.
     pub fn set_tau_mag(self, tau_mag: f64) -> Updated
         ensures { λ r. ⌜ told-of r ≡ set-tau-mag binary64 self «tau_mag» ⌝ }
     {
@@ -42,6 +43,7 @@ impl Magnetic {
         }
     }
 
+    // The reference: its norm in the magnetometer's unit, its dip in radians.
     pub fn set_mag_ref(self, norm: f64, dip: f64) -> Updated
         ensures { λ r. ⌜ told-of r ≡ set-mag-ref binary64 self norm dip ⌝ }
     {
@@ -79,6 +81,7 @@ impl Magnetic {
         magnetic
     }
 
+    // The state of a filter just built with the settings as they are now.
     pub fn reset_state(self) -> Magnetic
         ensures { λ r. ⌜ r ≡ reset-state binary64 self ⌝ }
     {

@@ -29,6 +29,7 @@ impl MagneticParams {
         mag_rejection_factor: 2.0,
     };
 
+    // The house settings of this half.
     pub fn house() -> MagneticParams
         ensures { λ r. ⌜ r ≡ house binary64 ⌝ }
     {
@@ -40,7 +41,7 @@ fn taus_taken(p: MagneticParams, mag_ts: f64) -> bool
     ensures { λ r. ⌜ r ≡ taus-taken binary64 p «mag_ts» ⌝ }
 {
     setting::gain_tau_taken(p.tau_mag)
-        & setting::tau_or_off_taken(p.mag_current_tau, mag_ts)
+        & setting::tau_or_off_taken(mag_ts, p.mag_current_tau)
         & setting::gain_tau_taken(p.mag_ref_tau)
 }
 
@@ -113,6 +114,7 @@ pub fn restarted_field(p: MagneticParams, x: NormDip) -> Field
 }
 
 impl MagneticState {
+    // The state before the first sample.
     pub fn fresh(p: MagneticParams) -> MagneticState
         ensures { λ r. ⌜ r ≡ fresh-state binary64 p ⌝ }
     {

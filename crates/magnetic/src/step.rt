@@ -107,6 +107,7 @@ impl Magnetic {
         }
     }
 
+    // A magnetometer sample, always in the same unit; seen is what this half sees of the other.
     pub fn update_mag(self, seen: Seen, mag: Vector) -> Updated
         ensures { λ r. ⌜ told-of r ≡ update-mag binary64 self seen mag ⌝ }
     {

@@ -83,9 +83,12 @@ root-grows f x y u v p q h =
 
 -- ---- the root is far below the largest value
 -- 2 ^ 64 and 2 ^ 512
+abbrev pub half-range : Format → ℕ
+half-range binary32 = 64
+half-range binary64 = 512
+
 abbrev pub root-limit : Format → Float
-root-limit binary32 = fin false 1 (pos 64)
-root-limit binary64 = fin false 1 (pos 512)
+root-limit f = fin false 1 (pos (half-range f))
 
 -- its square is out of the format's range
 limit-beyond : (f : Format) → Value f (root-limit f) × (2 ^ (low f + suc (emax f) + low f) ≤ count f (root-limit f) * count f (root-limit f))

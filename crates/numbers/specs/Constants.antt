@@ -2,6 +2,7 @@
 use mathlib.Core.Bool.{Bool, _&&_}
 use lib.Ieee.{Float, binary64, ofBits, le}
 use Rattle.floats.specs.Notation.{zero, half, one, pi}
+use Rattle.floats.specs.Decimals.{half-pi}
 
 abbrev pub 𝟎 : Float
 𝟎 = zero binary64
@@ -143,7 +144,7 @@ abbrev pub PI-LO : Float
 PI-LO = ofBits binary64 0x3ca1_a626_3314_5c07
 
 abbrev pub PIO2 : Float
-PIO2 = ofBits binary64 0x3ff9_21fb_5444_2d18
+PIO2 = half-pi binary64
 
 abbrev pub PIO2-LO : Float
 PIO2-LO = ofBits binary64 0x3c91_a626_3314_5c07

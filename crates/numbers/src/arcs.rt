@@ -4,10 +4,9 @@ ghost use lib.Ieee.{binary64};
 ghost use Rattle.floats.specs.Fractions.{sign};
 ghost use Rattle.numbers.specs.Arcs.{kasin, near-one, ratio, katan, upper, asin, acos, atan2};
 use crate::roots::sqrt;
+use floats::PI;
 
 // pi and pi / 2, and what each lacks.
-const PI: f64 = 3.141592653589793;
-
 const PI_LO: f64 = 1.2246467991473532e-16;
 
 const PIO2: f64 = 1.5707963267948966;
@@ -65,6 +64,7 @@ fn near_one(a: f64) -> Parts
     Parts { g, q: g * kasin(z) }
 }
 
+// The angle in radians whose sine is x, from -PI/2 to PI/2.
 pub fn asin(x: f64) -> f64
     ensures { λ r. ⌜ r ≡ asin binary64 x ⌝ }
 {
@@ -82,6 +82,7 @@ pub fn asin(x: f64) -> f64
     }
 }
 
+// The angle in radians whose cosine is x, from 0 to PI.
 pub fn acos(x: f64) -> f64
     ensures { λ r. ⌜ r ≡ acos binary64 x ⌝ }
 {
@@ -187,6 +188,7 @@ fn upper(y: f64, x: f64) -> f64
     }
 }
 
+// The angle in radians of the point (x, y), from -PI to PI.
 pub fn atan2(y: f64, x: f64) -> f64
     ensures { λ r. ⌜ r ≡ atan2 binary64 y x ⌝ }
 {

@@ -60,6 +60,7 @@ const L1: f64 = 0.6931471805598903;
 
 const L2: f64 = 5.497923018708371e-14;
 
+// e to the power of x.
 pub fn exp(x: f64) -> f64
     ensures { λ r. ⌜ r ≡ exp binary64 x ⌝ }
 {

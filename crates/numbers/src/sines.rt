@@ -115,6 +115,7 @@ fn cosine_of(t: Reduced) -> f64
     }
 }
 
+// The sine of x radians.
 pub fn sin(x: f64) -> f64
     ensures { λ r. ⌜ r ≡ sin binary64 x ⌝ }
 {
@@ -127,6 +128,7 @@ pub fn sin(x: f64) -> f64
     }
 }
 
+// The cosine of x radians.
 pub fn cos(x: f64) -> f64
     ensures { λ r. ⌜ r ≡ cos binary64 x ⌝ }
 {
@@ -139,6 +141,7 @@ pub fn cos(x: f64) -> f64
     }
 }
 
+// The tangent of x radians.
 pub fn tan(x: f64) -> f64
     ensures { λ r. ⌜ r ≡ tan x ⌝ }
 {

@@ -4,8 +4,7 @@ ghost use lib.Ieee.{binary64};
 ghost use Rattle.readable.specs.Angles.{degrees, tilt, heading, signed, to-tenths};
 use algebra::Quaternion;
 use algebra::Vector;
-
-const PI: f64 = 3.141592653589793;
+use floats::PI;
 
 // Whole tenths, and whether the number is below zero; or that it has no such number.
 pub enum Tenths {

@@ -10,7 +10,7 @@ use lib.ListN.{length, drop-of-length-le}
 use lib.Seq.{sets, sets-eq}
 use lib.Ieee.{Float}
 use Rattle.limits.specs.Answers.{number, Told, told}
-use Rattle.vqf.specs.Whole.{told-of, all-told}
+use Rattle.vqf.specs.Told.{told-of, all-told}
 use Rattle.vqf.specs.declared.types.VQF.{VQF}
 use Rattle.vqf.specs.declared.types.Updated.{Updated}
 use Rattle.vqf.specs.declared.types.UpdatedAll.{UpdatedAll}

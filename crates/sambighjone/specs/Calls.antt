@@ -7,13 +7,13 @@ use lib.ListN.{length}
 use lib.Ieee.{Float, binary64, eq}
 use Rattle.floats.specs.Notation.{zero, one}
 use Rattle.algebra.specs.declared.quaternion.Quaternion.{Quaternion}
-use Rattle.inertial.specs.declared.setters.BiasEstimate.{BiasEstimate}
-use Rattle.inertial.specs.declared.types.Deviations.{Deviations}
+use Rattle.inertial.specs.declared.asked.BiasEstimate.{BiasEstimate}
+use Rattle.tilt.specs.declared.types.Deviations.{Deviations}
 use Rattle.limits.specs.Answers.{Told, told}
 use Rattle.vqf.specs.Asked as filter
 use Rattle.vqf.specs.Build.{fresh, new}
 use Rattle.vqf.specs.Update.{update}
-use Rattle.vqf.specs.Whole.{ToldAll}
+use Rattle.vqf.specs.Told.{ToldAll}
 use Rattle.vqf.specs.declared.types.VQF.{VQF}
 use Rattle.vqf.specs.declared.types.Params.{Params}
 use Rattle.vqf.specs.declared.types.Sample.{Sample}
@@ -21,7 +21,7 @@ use Rattle.vqf.specs.declared.types.Sample.the-variants as sample
 use Rattle.vqf.specs.declared.types.Interval.the-variants.{Given}
 use Rattle.vqf.specs.declared.types.Settings.the-variants.{Given as These}
 use Rattle.image.specs.Pack.{pack, all-params}
-use Rattle.image.specs.Image.{fits, unpack, params}
+use Rattle.image.specs.Image.{SETTINGS, fits, unpack, params}
 use Rattle.image.specs.Unpack.{number, vector}
 
 -- the library's own numbers start at 100; the filter's stay below
@@ -40,7 +40,7 @@ fed step s = kept s (step (unpack s))
 unfoldable pub switched : (VQF → Bool → Told VQF) → ℕ → List Float → Told (List Float)
 switched set on s = cond (ltb 1 on) (told 4 s) (fed (λ f. set f (eqb on 1)) s)
 
--- ---- the constructor, from 25 settings
+-- ---- the constructor, from its settings
 -- a flag among them is 0.0, of either sign, or 1.0
 abbrev pub a-flag : Float → Bool
 a-flag x = eq x (zero binary64) || eq x (one binary64)
@@ -54,7 +54,7 @@ constructed gyr-ts acc-ts mag-ts settings =
 
 unfoldable pub built : Float → Float → Float → List Float → List Float → Told (List Float)
 built gyr-ts acc-ts mag-ts settings s =
-    cond (eqb (length settings) 25) (fed (λ f. constructed gyr-ts acc-ts mag-ts settings) s) (told wrong-length s)
+    cond (eqb (length settings) SETTINGS) (fed (λ f. constructed gyr-ts acc-ts mag-ts settings) s) (told wrong-length s)
 
 -- ---- the three steps of an update
 -- 6 numbers, of the gyroscope and the accelerometer, or 9, with the magnetometer's

@@ -5,7 +5,6 @@ ghost use lib.Ieee.{binary64};
 ghost use Rattle.limits.specs.Answers.{told};
 ghost use Rattle.vqf.specs.Asked.{quat-3d, quat-6d, quat-9d, delta, bias-estimate, relative-rest-deviations, params, rest-detected, mag-dist-detected};
 ghost use Rattle.sambighjone.specs.Calls.{asked, four, both, bias-and-sigma, mag-ref, settings, yes-or-no};
-use crate::kept::SIZE;
 use crate::kept::WRONG_LENGTH;
 use crate::put::put_flag;
 use crate::put::put_four;
@@ -13,6 +12,7 @@ use crate::put::put_one;
 use crate::put::put_settings;
 use crate::put::put_two;
 use algebra::Quaternion;
+use image::SIZE;
 
 // The gyroscope alone: w, x, y, z.
 #[no_mangle]

@@ -5,11 +5,12 @@ ghost use lib.Ieee.{binary64};
 ghost use lib.ListN.{length};
 ghost use Rattle.limits.specs.Answers.{told};
 ghost use Rattle.vqf.specs.Build.{fresh};
-ghost use Rattle.vqf.specs.Whole.{told-of};
+ghost use Rattle.vqf.specs.Told.{told-of};
+ghost use Rattle.image.specs.Image.{SETTINGS};
 ghost use Rattle.sambighjone.specs.Calls.{fed, a-flag, flags-taken, constructed, built};
-use crate::kept::SETTINGS;
 use crate::kept::WRONG_LENGTH;
 use crate::kept::keep;
+use image::SETTINGS;
 use limits::Answer;
 use vqf::Interval;
 use vqf::Settings;
@@ -36,7 +37,7 @@ fn a_flag(x: f64) -> bool
 }
 
 fn flags_taken(settings: &[f64]) -> bool
-    requires { ⌜ 25 ≤ length (now settings) ⌝ }
+    requires { ⌜ SETTINGS ≤ length (now settings) ⌝ }
     ensures { λ r. ⌜ r ≡ flags-taken (now (settings .entry)) ⌝ }
 {
     a_flag(settings[1]) & a_flag(settings[2]) & a_flag(settings[8])
@@ -44,7 +45,7 @@ fn flags_taken(settings: &[f64]) -> bool
 
 // What a refused flag leaves is what the constructor leaves beside a 4.
 fn constructed(gyr_ts: f64, acc_ts: f64, mag_ts: f64, settings: &[f64]) -> Updated
-    requires { ⌜ 25 ≤ length (now settings) ⌝ }
+    requires { ⌜ SETTINGS ≤ length (now settings) ⌝ }
     ensures { λ r. ⌜ told-of r ≡ constructed «gyr_ts» «acc_ts» «mag_ts» (now (settings .entry)) ⌝ }
 {
     if flags_taken(settings) {

@@ -3,12 +3,13 @@ ghost use mathlib.Core.Path.{_≡_};
 ghost use mathlib.Core.List.{[], _∷_};
 ghost use Rattle.limits.specs.Answers.{told};
 ghost use Rattle.sambighjone.specs.Calls.{given, four, settings, yes-or-no};
-use crate::kept::SETTINGS;
 use crate::kept::WRONG_LENGTH;
 use algebra::Quaternion;
+use image::SETTINGS;
 use image::marks::flag;
 use vqf::Params;
 
+// One number, where there is room for one.
 pub fn put_one(out: &mut [f64], x: f64) -> u32
     ensures { λ r. ⌜ told r (now (out .exit)) ≡ given (x ∷ []) (now (out .entry)) ⌝ }
 {
@@ -19,6 +20,7 @@ pub fn put_one(out: &mut [f64], x: f64) -> u32
     0
 }
 
+// Two numbers, where there is room for two.
 pub fn put_two(out: &mut [f64], x: f64, y: f64) -> u32
     ensures { λ r. ⌜ told r (now (out .exit)) ≡ given (x ∷ y ∷ []) (now (out .entry)) ⌝ }
 {
@@ -30,6 +32,7 @@ pub fn put_two(out: &mut [f64], x: f64, y: f64) -> u32
     0
 }
 
+// The four numbers of a quaternion.
 pub fn put_four(out: &mut [f64], q: Quaternion) -> u32
     ensures { λ r. ⌜ told r (now (out .exit)) ≡ given (four q) (now (out .entry)) ⌝ }
 {
@@ -49,6 +52,7 @@ fn yes_or_no(b: bool) -> u32
     if b { 1 } else { 0 }
 }
 
+// 1 for yes, 0 for no.
 pub fn put_flag(out: &mut [u32], b: bool) -> u32
     ensures { λ r. ⌜ told r (now (out .exit)) ≡ given (yes-or-no b ∷ []) (now (out .entry)) ⌝ }
 {
@@ -59,6 +63,7 @@ pub fn put_flag(out: &mut [u32], b: bool) -> u32
     0
 }
 
+// Three answers.
 pub fn put_three(out: &mut [u32], a: u32, b: u32, c: u32) -> u32
     ensures { λ r. ⌜ told r (now (out .exit)) ≡ given (a ∷ b ∷ c ∷ []) (now (out .entry)) ⌝ }
 {
@@ -71,6 +76,7 @@ pub fn put_three(out: &mut [u32], a: u32, b: u32, c: u32) -> u32
     0
 }
 
+// The 25 settings, in the order of the image.
 pub fn put_settings(out: &mut [f64], p: Params) -> u32
     ensures { λ r. ⌜ told r (now (out .exit)) ≡ given (settings p) (now (out .entry)) ⌝ }
 {

@@ -10,6 +10,7 @@ use crate::kept::keep;
 use algebra::Vector;
 use inertial::setters::Sigma;
 
+// How slowly the tilt follows the accelerometer, in seconds.
 #[no_mangle]
 pub extern "C" fn sambighjone_set_tau_acc(image: &mut [f64], tau: f64) -> u32
     ensures { λ r. ⌜ told r (now (image .exit)) ≡ fed (λ f. set-tau-acc binary64 f tau) (now (image .entry)) ⌝ }
@@ -19,6 +20,7 @@ pub extern "C" fn sambighjone_set_tau_acc(image: &mut [f64], tau: f64) -> u32
     keep(image, u)
 }
 
+// How slowly the heading follows the magnetometer, in seconds; 0: at once; below 0: not, but for the first sample.
 #[no_mangle]
 pub extern "C" fn sambighjone_set_tau_mag(image: &mut [f64], tau: f64) -> u32
     ensures { λ r. ⌜ told r (now (image .exit)) ≡ fed (λ f. set-tau-mag binary64 f tau) (now (image .entry)) ⌝ }
@@ -28,6 +30,7 @@ pub extern "C" fn sambighjone_set_tau_mag(image: &mut [f64], tau: f64) -> u32
     keep(image, u)
 }
 
+// Whether the bias is estimated in motion: 0 for no.
 #[no_mangle]
 pub extern "C" fn sambighjone_set_motion_bias_est_enabled(image: &mut [f64], on: u32) -> u32
     ensures { λ r. ⌜ told r (now (image .exit)) ≡ switched set-motion-bias-est-enabled on (now (image .entry)) ⌝ }
@@ -40,6 +43,7 @@ pub extern "C" fn sambighjone_set_motion_bias_est_enabled(image: &mut [f64], on:
     keep(image, u)
 }
 
+// Whether rest is detected, and the bias estimated there: 0 for no.
 #[no_mangle]
 pub extern "C" fn sambighjone_set_rest_bias_est_enabled(image: &mut [f64], on: u32) -> u32
     ensures { λ r. ⌜ told r (now (image .exit)) ≡ switched (set-rest-bias-est-enabled binary64) on (now (image .entry)) ⌝ }
@@ -52,6 +56,7 @@ pub extern "C" fn sambighjone_set_rest_bias_est_enabled(image: &mut [f64], on: u
     keep(image, u)
 }
 
+// Whether a disturbed field is noticed and kept from the heading: 0 for no.
 #[no_mangle]
 pub extern "C" fn sambighjone_set_mag_dist_rejection_enabled(image: &mut [f64], on: u32) -> u32
     ensures { λ r. ⌜ told r (now (image .exit)) ≡ switched (set-mag-dist-rejection-enabled binary64) on (now (image .entry)) ⌝ }
@@ -64,6 +69,7 @@ pub extern "C" fn sambighjone_set_mag_dist_rejection_enabled(image: &mut [f64], 
     keep(image, u)
 }
 
+// The deviations from which a sample is not quiet: in °/s and in m/s².
 #[no_mangle]
 pub extern "C" fn sambighjone_set_rest_detection_thresholds(
     image: &mut [f64],
@@ -87,6 +93,7 @@ pub extern "C" fn sambighjone_set_bias_estimate(image: &mut [f64], x: f64, y: f6
     keep(image, u)
 }
 
+// The gyro bias and its standard deviation, both in rad/s.
 #[no_mangle]
 pub extern "C" fn sambighjone_set_bias_estimate_with_sigma(
     image: &mut [f64],
@@ -102,6 +109,7 @@ pub extern "C" fn sambighjone_set_bias_estimate_with_sigma(
     keep(image, u)
 }
 
+// The reference: its norm in the magnetometer's unit, its dip in radians.
 #[no_mangle]
 pub extern "C" fn sambighjone_set_mag_ref(image: &mut [f64], norm: f64, dip: f64) -> u32
     ensures { λ r. ⌜ told r (now (image .exit)) ≡ fed (λ f. set-mag-ref binary64 f norm dip) (now (image .entry)) ⌝ }

@@ -4,16 +4,15 @@ ghost use mathlib.Core.List.{[], _∷_};
 ghost use Prim.Native.Nat.{_+_, _≤_};
 ghost use lib.ListN.{length};
 ghost use Rattle.limits.specs.Answers.{number, told};
-ghost use Rattle.vqf.specs.Whole.{told-of, all-told};
+ghost use Rattle.vqf.specs.Told.{told-of, all-told};
 ghost use Rattle.image.specs.Image.{unpack};
 ghost use Rattle.image.specs.Unpack.{vector};
 ghost use Rattle.sambighjone.specs.Calls.{sampled, magnetometer, stepped, first-refusal, summed-up, updated, given};
-use crate::kept::SIZE;
 use crate::kept::WRONG_LENGTH;
 use crate::kept::keep;
-use crate::kept::number;
 use crate::put::put_three;
 use algebra::Vector;
+use image::SIZE;
 use limits::Answer;
 use vqf::Sample;
 use vqf::Updated;
@@ -57,9 +56,9 @@ fn stepped(image: &[f64], samples: &[f64]) -> UpdatedAll
 fn first_refusal(gyr: Answer, acc: Answer, mag: Answer) -> Answer
     ensures { λ r. ⌜ number r ≡ first-refusal (number gyr) (number acc) (number mag) ⌝ }
 {
-    if number(gyr) != 0 {
+    if gyr.number() != 0 {
         gyr
-    } else if number(acc) != 0 {
+    } else if acc.number() != 0 {
         acc
     } else {
         mag
@@ -81,7 +80,7 @@ fn summed_up(all: UpdatedAll) -> Updated
 fn put_answers(out: &mut [u32], gyr: Answer, acc: Answer, mag: Answer) -> u32
     ensures { λ r. ⌜ told r (now (out .exit)) ≡ given (number gyr ∷ number acc ∷ number mag ∷ []) (now (out .entry)) ⌝ }
 {
-    put_three(out, number(gyr), number(acc), number(mag))
+    put_three(out, gyr.number(), acc.number(), mag.number())
 }
 
 // The gyroscope's and the accelerometer's three numbers, and the magnetometer's or none.

@@ -14,7 +14,7 @@ use Rattle.algebra.specs.Vectors.{vector}
 use Rattle.algebra.specs.declared.vector.Vector.{Vector}
 use Rattle.inertial.specs.declared.setters.Sigma.{Sigma}
 use Rattle.inertial.specs.declared.setters.Sigma.the-variants as sigmas
-use Rattle.inertial.specs.declared.types.RestParams.{RestParams}
+use Rattle.tilt.specs.declared.types.RestParams.{RestParams}
 use Rattle.inertial.specs.declared.types.BiasParams.{BiasParams}
 use Rattle.magnetic.specs.declared.types.MagneticParams.{MagneticParams}
 use Rattle.vqf.specs.declared.types.Params.{Params}

@@ -1,6 +1,6 @@
 // What a call of a script does.
 ghost use mathlib.Core.Path.{_≡_};
-ghost use Rattle.vqf.specs.Whole.{told-of};
+ghost use Rattle.vqf.specs.Told.{told-of};
 ghost use Rattle.script.specs.Plays.{called, built};
 use crate::request::Call;
 use crate::request::Construction;
@@ -16,6 +16,7 @@ fn built(c: Construction) -> Updated
     VQF::new(c.gyr_ts, acc_ts, mag_ts, settings)
 }
 
+// A call of a script on the filter.
 pub fn called(f: VQF, call: Call) -> Updated
     ensures { λ r. ⌜ told-of r ≡ called f call ⌝ }
 {

@@ -71,6 +71,7 @@ impl Reader {
         next
     }
 
+    // The reader after one more byte.
     pub fn with(self, byte: u8) -> Reader
         ensures { λ r. ⌜ r ≡ reader-with self byte ⌝ }
     {

@@ -1,14 +1,12 @@
 -- Both halves of a filter that is reached were reached by calls that keep their bounds (BiasHeld and CountsHeld of `inertial`, HowFar of `magnetic`).
 use mathlib.Core.Path.{_≡_, ap, _∙_}
 use mathlib.Core.List.{List}
-use lib.Ieee.{Float, Format, binary64}
+use lib.Ieee.{Float, Format}
 use Rattle.floats.specs.Tests.{both, keeps}
 use Rattle.limits.specs.Answers.{Told}
-use Rattle.limits.specs.Limits.{all-within}
-use Rattle.inertial.specs.Gyr.{radians}
 use Rattle.inertial.specs.declared.types.Inertial.{Inertial}
 use Rattle.inertial.specs.Setup as inertial
-use Rattle.inertial.proofs.BiasHeld.{Held, reached-held}
+use Rattle.inertial.proofs.BiasHeld.{Held, bias-within, reached-held}
 use Rattle.inertial.proofs.BiasLimit.{bias-limit}
 use Rattle.inertial.proofs.CountsHeld.{CountsHeld, reached-counts}
 use Rattle.inertial.proofs.Sound.{Sound, reached-sound}
@@ -18,27 +16,20 @@ use Rattle.vqf.specs.Build.{house, interval-or, settings-or-house, built
 use Rattle.vqf.specs.Update.{seen, update-mag}
 use Rattle.vqf.specs.Calls.{Call, inertial-calls, run}
 use Rattle.vqf.specs.Construction.{all-taken}
-use Rattle.vqf.specs.HowFar.{clip-of, AllWithin, Bounded, HowFar}
-use Rattle.vqf.specs.declared.types.VQF.{VQF}
-use Rattle.vqf.specs.declared.types.Params.{Params}
-use Rattle.vqf.specs.declared.types.Interval.{Interval}
-use Rattle.vqf.specs.declared.types.Settings.{Settings}
+use Rattle.vqf.specs.HowFar.{clip-of, Bounded, HowFar}
+use Rattle.vqf.specs.Types.{VQF, Params, Interval, Settings}
 use Rattle.vqf.proofs.InertialRun.{inertial-run}
 use Rattle.vqf.proofs.Reached.{reached}
 use Rattle.vqf.proofs.MagneticReached.{magnetic-reached}
 use Rattle.vqf.proofs.StaysFinite.{inertial-half, stays-finite}
 
 module _ (w : Format) where
-  bias-within : (f : Inertial) → Held w f → AllWithin (radians w (f .params .rest .«bias_clip»)) (f .state .bias .bias)
-  unfolding all-within
-  bias-within f h = let b = h .1 in let u = simp both at b in (u .0 .0, u .0 .1, u .1)
-
   bounded : (f : VQF) → Held w (f .inertial) → CountsHeld w (f .inertial) → of-magnetic.Held w (f .magnetic) → Bounded w f
   unfolding update-mag
   bounded f i c m = record {
     heading = m .heading .0;
     disagreement = m .heading .2;
-    bias = bias-within (f .inertial) i;
+    bias = bias-within w (f .inertial) i;
     gain = of-magnetic.gain-used-within w (f .magnetic) m (seen w (f .inertial));
     k-mag = m .gain;
     k-mag-init = m .heading .3;
@@ -78,7 +69,6 @@ how-far = record {
       (magnetic-reached w gyr-ts acc-ts mag-ts given calls);
   clip-kept = clip-kept;
   finite = stays-finite;
-  sigma = λ gyr-ts acc-ts mag-ts given calls.
-      let h = stays-finite gyr-ts acc-ts mag-ts given calls in
-      sigma-within _ (inertial-half _ h) (reached binary64 Sound reached-sound gyr-ts acc-ts mag-ts given calls);
+  sigma = λ w gyr-ts acc-ts mag-ts given calls.
+      sigma-within w _ (inertial-half _ (stays-finite w gyr-ts acc-ts mag-ts given calls)) (reached w (Sound w) (reached-sound w) gyr-ts acc-ts mag-ts given calls);
 }

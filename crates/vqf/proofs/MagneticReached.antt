@@ -6,17 +6,14 @@ use lib.Dec.{T}
 use lib.Ieee.{Float, Format}
 use Rattle.floats.specs.Tests.{both, keeps}
 use Rattle.limits.specs.Answers.{Told, told}
+use Rattle.magnetic.specs.Calls.{update-mag}
 use Rattle.magnetic.proofs.HowFar as of-half
 use Rattle.vqf.specs.Build.{house, interval-or, settings-or-house, taken, built, fresh, new}
 use Rattle.vqf.specs.Update as updates
 use Rattle.vqf.specs.Setters as setters
-use Rattle.vqf.specs.Calls.{Call, update-gyr, update-acc, update-mag, update-gyr-with-ts, update, set-tau-acc, set-tau-mag, set-motion-bias-est-enabled, set-rest-bias-est-enabled, set-mag-dist-rejection-enabled, set-rest-detection-thresholds, set-mag-ref, set-bias-estimate, reset-state, reply, run}
+use Rattle.vqf.specs.Calls.{Call, on-inertial, on-magnetic, update, set-mag-dist-rejection-enabled, reset-state, reply, run}
 use Rattle.vqf.specs.Construction.{all-taken}
-use Rattle.vqf.specs.declared.types.VQF.{VQF}
-use Rattle.vqf.specs.declared.types.Params.{Params}
-use Rattle.vqf.specs.declared.types.Interval.{Interval}
-use Rattle.vqf.specs.declared.types.Settings.{Settings}
-use Rattle.vqf.specs.declared.types.Sample.{Sample}
+use Rattle.vqf.specs.Types.{VQF, Params, Interval, Settings, Sample}
 use Rattle.vqf.specs.declared.types.Sample.the-variants.{Absent, Given}
 use Rattle.vqf.proofs.Construction.{house-within}
 
@@ -27,27 +24,18 @@ module _ (w : Format) where
   sample : (f : VQF) (m : Sample) → Half f → Half (updates.update-sample w f m .left)
   unfolding updates.update-sample updates.update-mag
   sample f Absent h = h
-  sample f (Given v) h = of-half.mag-held w (f .magnetic) h (updates.seen w (f .inertial)) v
+  sample f (Given v) h = of-half.call-held w (f .magnetic) h (updates.seen w (f .inertial)) (update-mag v)
 
   switched : (f : VQF) (on : Bool) → Half f → Half (setters.set-mag-dist-rejection-enabled w f on .left)
   unfolding setters.set-mag-dist-rejection-enabled
   switched f on h = keeps (λ (t : Told VQF). Half (t .left)) (Bool·beq (f .inertial .params .rest .«mag_dist_rejection_enabled») on) (told 0 f) _ (λ _. h) (of-half.switched-held w (f .magnetic) h)
 
   step : (f : VQF) (c : Call) → Half f → Half (reply w f c .left)
-  unfolding updates.update-gyr updates.update-acc updates.update-mag updates.update-gyr-with-ts updates.update setters.set-tau-acc setters.set-tau-mag setters.set-motion-bias-est-enabled setters.set-rest-bias-est-enabled setters.set-rest-detection-thresholds setters.set-bias-estimate setters.set-mag-ref setters.reset-state
-  step f (update-gyr v) h = h
-  step f (update-acc v) h = h
-  step f (update-mag v) h = of-half.mag-held w (f .magnetic) h (updates.seen w (f .inertial)) v
-  step f (update-gyr-with-ts v ts) h = h
+  unfolding updates.update-gyr updates.update-acc updates.update setters.reset-state
+  step f (on-inertial c) h = h
+  step f (on-magnetic c) h = of-half.call-held w (f .magnetic) h (updates.seen w (f .inertial)) c
   step f (update g a m) h = sample _ m h
-  step f (set-tau-acc tau) h = h
-  step f (set-tau-mag tau) h = of-half.tau-held w (f .magnetic) h tau
-  step f (set-motion-bias-est-enabled on) h = h
-  step f (set-rest-bias-est-enabled on) h = h
   step f (set-mag-dist-rejection-enabled on) h = switched f on h
-  step f (set-rest-detection-thresholds g a) h = h
-  step f (set-mag-ref norm dip) h = of-half.ref-held w (f .magnetic) h norm dip
-  step f (set-bias-estimate v sigma) h = h
   step f reset-state h = of-half.reset-held w (f .magnetic) h
 
   steps : (f : VQF) (calls : List Call) → Half f → Half (run w f calls)

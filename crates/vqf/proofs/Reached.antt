@@ -13,10 +13,7 @@ use Rattle.inertial.specs.declared.types.InertialParams.{InertialParams}
 use Rattle.vqf.specs.Build.{house, interval-or, settings-or-house, taken, built, fresh, new}
 use Rattle.vqf.specs.Calls.{Call, inertial-calls, run}
 use Rattle.vqf.specs.Construction.{all-taken}
-use Rattle.vqf.specs.declared.types.VQF.{VQF}
-use Rattle.vqf.specs.declared.types.Params.{Params}
-use Rattle.vqf.specs.declared.types.Interval.{Interval}
-use Rattle.vqf.specs.declared.types.Settings.{Settings}
+use Rattle.vqf.specs.Types.{VQF, Params, Interval, Settings}
 use Rattle.vqf.proofs.Construction.{house-within}
 use Rattle.vqf.proofs.InertialRun.{inertial-run}
 

@@ -7,9 +7,10 @@ use Rattle.algebra.proofs.Inverses.{inverses}
 use Rattle.filters.proofs.Bounds.{bounds}
 use Rattle.filters.proofs.InStep.{stay-in-step}
 use Rattle.limits.proofs.BySize.{by-size}
-use Rattle.inertial.proofs.HalfTurn.{half-turn}
+use Rattle.tilt.proofs.HalfTurn.{half-turn}
 use Rattle.inertial.proofs.BiasLimit.{bias-limit}
 use Rattle.vqf.specs.Theorems.{Theorems}
+use Rattle.vqf.proofs.ByName.{by-name}
 use Rattle.vqf.proofs.ByTable.{answers}
 use Rattle.vqf.proofs.Refused.{refused}
 use Rattle.vqf.proofs.Construction.{construction}
@@ -23,6 +24,7 @@ use Rattle.vqf.proofs.Worked.{worked}
 
 pub theorems : Theorems
 theorems = record {
+  by-name = by-name;
   answers = answers;
   refused = refused;
   construction = construction;

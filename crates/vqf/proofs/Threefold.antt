@@ -1,9 +1,8 @@
 -- Three calls in turn give what their definitions give in turn: each call starts from the filter that the one before it left.
 use mathlib.Core.Path.{_≡_, ap, _∙_}
 use Rattle.limits.specs.Answers.{Told}
-use Rattle.vqf.specs.Whole.{told-of, ToldAll}
-use Rattle.vqf.specs.declared.types.VQF.{VQF}
-use Rattle.vqf.specs.declared.types.Updated.{Updated}
+use Rattle.vqf.specs.Told.{told-of, ToldAll}
+use Rattle.vqf.specs.Types.{VQF, Updated}
 
 abbrev pub in-turn : Told VQF → (VQF → Told VQF) → (VQF → Told VQF) → ToldAll
 in-turn g acc mag =

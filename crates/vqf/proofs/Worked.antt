@@ -13,11 +13,18 @@ use Rattle.algebra.specs.Vectors as vectors
 use Rattle.algebra.specs.Quaternions as quaternions
 use Rattle.algebra.specs.Matrices as matrices
 use Rattle.filters.specs.Values as filters
-use Rattle.filters.specs.Coefficients.{angle, coeffs, filter-coeffs}
+use Rattle.filters.specs.Coefficients.{angle, coeffs, filter-coeffs, finite-coeffs}
 use Rattle.filters.specs.Channels.{average, filter-channel, filter-adapt-state-for-coeff-change, finite-channel}
 use Rattle.filters.specs.Banks.{outputs, channels, filter-vec2, filter-vec3, filter-vec9, adapted, adapt2, adapt3, adapt9, first-numbers, finite-channels}
 use Rattle.limits.specs.Answers.{told}
 use Rattle.limits.specs.Limits.{all-within, zero-sample}
+use Rattle.tilt.specs.Gyr as tilt
+use Rattle.tilt.specs.Gyr.{gyr-rest, gyr-filtered, gyr-stirred, finite-gyr-rest, predicted, turned}
+use Rattle.tilt.specs.Rest.{squared-deviation, broken}
+use Rattle.tilt.specs.Acc.{acc-rest, acc-filtered, counted, finite-acc-rest, inclined, acc-lowpassed, acc-correction, finite-inclination}
+use Rattle.tilt.specs.Setup.{fresh-rest, fresh-inclination}
+use Rattle.tilt.specs.Setters.{adapted-inclination}
+use Rattle.tilt.specs.Asked as asked
 use Rattle.inertial.specs.Gyr as gyr
 use Rattle.inertial.specs.Acc as acc
 use Rattle.inertial.specs.Kalman as kalman
@@ -34,7 +41,7 @@ unfolding set-tau-acc setters.set-tau-acc fresh built house inertial.new inertia
 tau-below = refl
 
 tau-taken : set-tau-acc binary64 (fresh binary64) (decimal binary64 1 100) .number ≡ 0
-unfolding set-tau-acc setters.set-tau-acc setters.retuned setters.finite-coeffs setters.adapted-inclination setters.adapted-bias adapted adapt2 adapt3 adapt9 first-numbers finite-channels finite-channel filter-adapt-state-for-coeff-change filter-coeffs angle coeffs tan ksin kcos clamp fresh built house inertial.new inertial.setup inertial.house inertial.fresh-state inertial.fresh-rest add sub mul div neg lt eq le round ofBits
+unfolding set-tau-acc setters.set-tau-acc setters.retuned finite-coeffs adapted-inclination setters.adapted-bias adapted adapt2 adapt3 adapt9 first-numbers finite-channels finite-channel filter-adapt-state-for-coeff-change filter-coeffs angle coeffs tan ksin kcos clamp fresh built house inertial.new inertial.setup inertial.house inertial.fresh-state fresh-rest fresh-inclination add sub mul div neg lt eq le round ofBits
 tau-taken = refl
 
 biases : BiasValues
@@ -52,7 +59,7 @@ biases = record {
 gyr-calls :
     (update-gyr binary64 (fresh binary64) (vectors.vector (algebra.whole 200) (algebra.whole 0) (algebra.whole 0)) .number ≡ 0)
     × (update-gyr-with-ts binary64 most-biased (thrice (algebra.whole 200)) (algebra.whole 1) .number ≡ 0)
-unfolding update-gyr update-gyr-with-ts set-bias-estimate setters.set-bias-estimate setters.sigma-or-none-taken setters.with-estimate gyr.update-gyr-with-ts gyr.gyr-step gyr.gyr-rest gyr.gyr-filtered gyr.gyr-stirred gyr.squared-deviation gyr.broken gyr.finite-gyr-rest gyr.predicted gyr.turned vectors.norm vectors.finite quaternions.times quaternions.normalize quaternions.norm quaternions.finite filter-vec3 outputs channels filter-channel average finite-channels finite-channel fresh built house inertial.new inertial.setup inertial.house inertial.fresh-state inertial.fresh-rest all-within magnitude root sine cosine sine-of cosine-of reduce ksin kcos clamp add sub mul div neg lt eq le ofInt round ofBits
+unfolding update-gyr update-gyr-with-ts set-bias-estimate setters.set-bias-estimate setters.sigma-or-none-taken setters.with-estimate gyr.update-gyr-with-ts tilt.update-gyr tilt.gyr-step gyr-rest gyr-filtered gyr-stirred squared-deviation broken finite-gyr-rest predicted turned vectors.norm vectors.finite quaternions.times quaternions.normalize quaternions.norm quaternions.finite filter-vec3 outputs channels filter-channel average finite-channels finite-channel fresh built house inertial.new inertial.setup inertial.house inertial.fresh-state fresh-rest fresh-inclination all-within magnitude root sine cosine sine-of cosine-of reduce ksin kcos clamp add sub mul div neg lt eq le ofInt round ofBits
 gyr-calls = (refl, refl)
 
 half-angle : largest binary64 ≡ decimal binary64 1745654302800634 (10 ^ 13)
@@ -76,11 +83,11 @@ acc-calls :
     × (update-acc binary64 (house-at (scaled (2 ^ 334))) level .number ≡ 0)
     × (update-acc binary64 (house-at (scaled (2 ^ 400))) level ≡ told 5 (house-at (scaled (2 ^ 400))))
     × (update-acc binary64 (house-at (filled (2 ^ 600))) level ≡ told 5 (house-at (filled (2 ^ 600))))
-unfolding update-acc setters.quat-6d acc.update-acc acc.acc-step acc.acc-settled acc.acc-rest acc.acc-filtered acc.counted acc.finite-acc-rest acc.inclined acc.acc-lowpassed acc.acc-correction acc.finite-inclination kalman.bias-step kalman.rotation kalman.smoothed kalman.measured kalman.in-motion kalman.raised kalman.widened kalman.innovation kalman.gain kalman.shifted kalman.shrunk kalman.estimated kalman.updated-bias kalman.finite-bias gyr.squared-deviation vectors.norm vectors.normalize vectors.finite vectors.clip vectors.clipped quaternions.times quaternions.normalize quaternions.norm quaternions.rotate quaternions.finite matrices.minus matrices.dot matrices.times matrices.diagonal matrices.transpose matrices.flatten matrices.unflatten matrices.finite matrices.adjugate matrices.determinant matrices.divided matrices.invert filter-vec2 filter-vec3 filter-vec9 outputs channels filter-channel average finite-channels finite-channel fresh built house inertial.new inertial.setup inertial.house inertial.fresh-state inertial.fresh-rest inertial.bias-coefficients all-within zero-sample magnitude root arccosine near-one kasin clamp larger add sub mul div neg lt eq le ofInt round ofBits
+unfolding update-acc asked.quat-6d acc.update-acc acc.acc-step acc.acc-settled acc-rest acc-filtered counted finite-acc-rest inclined acc-lowpassed acc-correction finite-inclination kalman.bias-step kalman.rotation kalman.smoothed kalman.measured kalman.in-motion kalman.raised kalman.widened kalman.innovation kalman.gain kalman.shifted kalman.shrunk kalman.estimated kalman.updated-bias kalman.finite-bias squared-deviation vectors.norm vectors.normalize vectors.finite vectors.clip vectors.clipped quaternions.times quaternions.normalize quaternions.norm quaternions.rotate quaternions.finite matrices.minus matrices.dot matrices.times matrices.diagonal matrices.transpose matrices.flatten matrices.unflatten matrices.finite matrices.adjugate matrices.determinant matrices.divided matrices.invert filter-vec2 filter-vec3 filter-vec9 outputs channels filter-channel average finite-channels finite-channel fresh built house inertial.new inertial.setup inertial.house inertial.fresh-state fresh-rest fresh-inclination inertial.bias-coefficients all-within zero-sample magnitude root arccosine near-one kasin clamp larger add sub mul div neg lt eq le ofInt round ofBits
 acc-calls = ((refl, refl, refl), refl, refl, refl)
 
 pub worked : Worked
-unfolding update-gyr update-gyr-with-ts update-acc set-tau-acc gyr.update-gyr-with-ts acc.update-acc setters.set-tau-acc all-within zero-sample neg eq le ofInt round ofBits toBits root
+unfolding update-gyr update-gyr-with-ts update-acc set-tau-acc gyr.update-gyr-with-ts tilt.update-gyr acc.update-acc setters.set-tau-acc all-within zero-sample neg eq le ofInt round ofBits toBits root
 worked = record {
   product = algebra.values .0;
   rotated = algebra.values .1;

@@ -3,9 +3,9 @@ use mathlib.Core.Bool.{Bool}
 use lib.Ieee.{Float, Format}
 use Rattle.algebra.specs.Quaternions.{apply-delta}
 use Rattle.algebra.specs.declared.quaternion.Quaternion.{Quaternion}
-use Rattle.inertial.specs.Setters as inertial
-use Rattle.inertial.specs.declared.setters.BiasEstimate.{BiasEstimate}
-use Rattle.inertial.specs.declared.types.Deviations.{Deviations}
+use Rattle.inertial.specs.Asked as inertial
+use Rattle.inertial.specs.declared.asked.BiasEstimate.{BiasEstimate}
+use Rattle.tilt.specs.declared.types.Deviations.{Deviations}
 use Rattle.vqf.specs.declared.types.VQF.{VQF}
 use Rattle.vqf.specs.declared.types.Params.{Params}
 use Rattle.vqf.specs.declared.types.Coefficients.{Coefficients}

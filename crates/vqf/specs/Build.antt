@@ -5,7 +5,7 @@ use Rattle.floats.specs.Decimals.{hundredth}
 use Rattle.limits.specs.Answers.{Told, told}
 use Rattle.inertial.specs.Setup as inertial
 use Rattle.magnetic.specs.Setup as magnetic
-use Rattle.vqf.specs.Whole.{halves}
+use Rattle.vqf.specs.Told.{halves}
 use Rattle.vqf.specs.declared.types.Params.{Params}
 use Rattle.vqf.specs.declared.types.VQF.{VQF}
 use Rattle.vqf.specs.declared.types.Interval.{Interval}

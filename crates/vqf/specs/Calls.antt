@@ -1,4 +1,5 @@
 -- The calls of the filter as data, and what a list of them leaves and answers, over the format w.
+use mathlib.Core.Path.{_≡_}
 use mathlib.Core.Bool.{Bool}
 use mathlib.Core.List.{List, [], _∷_, _++_}
 use Prim.Native.Nat.{ℕ}
@@ -7,37 +8,27 @@ use Rattle.algebra.specs.declared.vector.Vector.{Vector}
 use Rattle.limits.specs.Answers.{Told}
 use Rattle.inertial.specs.Calls as inertial
 use Rattle.inertial.specs.declared.setters.Sigma.{Sigma}
-use Rattle.vqf.specs.Whole.{ToldAll}
+use Rattle.magnetic.specs.Calls as magnetic
+use Rattle.vqf.specs.Told.{ToldAll, inertially, magnetically}
 use Rattle.vqf.specs.Update as updates
 use Rattle.vqf.specs.Setters as setters
 use Rattle.vqf.specs.declared.types.VQF.{VQF}
 use Rattle.vqf.specs.declared.types.Sample.{Sample}
 
+-- on one half, the three calls of an `update`, or on both halves; `ByName` below has each by its name
 pub data Call : Type 0 where
-  update-gyr update-acc update-mag : Vector → Call
-  update-gyr-with-ts : Vector → Float → Call
+  on-inertial : inertial.Own → Call
+  on-magnetic : magnetic.Call → Call
   update : Vector → Vector → Sample → Call
-  set-tau-acc set-tau-mag : Float → Call
-  set-motion-bias-est-enabled set-rest-bias-est-enabled set-mag-dist-rejection-enabled : Bool → Call
-  set-rest-detection-thresholds set-mag-ref : Float → Float → Call
-  set-bias-estimate : Vector → Sigma → Call
+  set-mag-dist-rejection-enabled : Bool → Call
   reset-state : Call
 
 -- the calls on the inertial half that a call makes: none where it is magnetic, two for an `update`
 abbrev pub inertial-part : Call → List inertial.Call
-inertial-part (update-gyr v) = inertial.update-gyr v ∷ []
-inertial-part (update-acc v) = inertial.update-acc v ∷ []
-inertial-part (update-mag v) = []
-inertial-part (update-gyr-with-ts v ts) = inertial.update-gyr-with-ts v ts ∷ []
-inertial-part (update g a m) = inertial.update-gyr g ∷ inertial.update-acc a ∷ []
-inertial-part (set-tau-acc tau) = inertial.set-tau-acc tau ∷ []
-inertial-part (set-tau-mag tau) = []
-inertial-part (set-motion-bias-est-enabled on) = inertial.set-motion-bias-est-enabled on ∷ []
-inertial-part (set-rest-bias-est-enabled on) = inertial.set-rest-bias-est-enabled on ∷ []
+inertial-part (on-inertial c) = inertial.own c ∷ []
+inertial-part (on-magnetic c) = []
+inertial-part (update g a m) = inertial.own (inertial.update-gyr g) ∷ inertial.own (inertial.update-acc a) ∷ []
 inertial-part (set-mag-dist-rejection-enabled on) = inertial.set-mag-dist-rejection-enabled on ∷ []
-inertial-part (set-rest-detection-thresholds g a) = inertial.set-rest-detection-thresholds g a ∷ []
-inertial-part (set-mag-ref norm dip) = []
-inertial-part (set-bias-estimate v sigma) = inertial.set-bias-estimate v sigma ∷ []
 inertial-part reset-state = inertial.reset-state ∷ []
 
 abbrev pub inertial-calls : List Call → List inertial.Call
@@ -57,19 +48,10 @@ three-replies t = record { numbers = t .gyr ∷ t .acc ∷ t .mag ∷ []; left =
 
 module _ (w : Format) where
   abbrev pub reply : VQF → Call → Reply
-  reply f (update-gyr v) = one-reply (updates.update-gyr w f v)
-  reply f (update-acc v) = one-reply (updates.update-acc w f v)
-  reply f (update-mag v) = one-reply (updates.update-mag w f v)
-  reply f (update-gyr-with-ts v ts) = one-reply (updates.update-gyr-with-ts w f v ts)
+  reply f (on-inertial c) = one-reply (inertially f (inertial.reply w (f .inertial) (inertial.own c)))
+  reply f (on-magnetic c) = one-reply (magnetically f (magnetic.reply w (f .magnetic) (updates.seen w (f .inertial)) c))
   reply f (update g a m) = three-replies (updates.update w f g a m)
-  reply f (set-tau-acc tau) = one-reply (setters.set-tau-acc w f tau)
-  reply f (set-tau-mag tau) = one-reply (setters.set-tau-mag w f tau)
-  reply f (set-motion-bias-est-enabled on) = one-reply (setters.set-motion-bias-est-enabled f on)
-  reply f (set-rest-bias-est-enabled on) = one-reply (setters.set-rest-bias-est-enabled w f on)
   reply f (set-mag-dist-rejection-enabled on) = one-reply (setters.set-mag-dist-rejection-enabled w f on)
-  reply f (set-rest-detection-thresholds g a) = one-reply (setters.set-rest-detection-thresholds w f g a)
-  reply f (set-mag-ref norm dip) = one-reply (setters.set-mag-ref w f norm dip)
-  reply f (set-bias-estimate v sigma) = one-reply (setters.set-bias-estimate w f v sigma)
   reply f reset-state = one-reply (setters.reset-state w f)
 
   -- the filter after a list of calls, and their answers one after the other
@@ -80,3 +62,20 @@ module _ (w : Format) where
   abbrev pub answers : VQF → List Call → List ℕ
   answers f [] = []
   answers f (c ∷ cs) = reply f c .numbers ++ answers (reply f c .left) cs
+
+  -- each of the fourteen calls, and the definition that its function promises
+  pub record ByName (f : VQF) : Type 0 where
+    pub gyr : (v : Vector) → reply f (on-inertial (inertial.update-gyr v)) ≡ one-reply (updates.update-gyr w f v)
+    pub gyr-with-ts : (v : Vector) (ts : Float) → reply f (on-inertial (inertial.update-gyr-with-ts v ts)) ≡ one-reply (updates.update-gyr-with-ts w f v ts)
+    pub acc : (v : Vector) → reply f (on-inertial (inertial.update-acc v)) ≡ one-reply (updates.update-acc w f v)
+    pub mag : (v : Vector) → reply f (on-magnetic (magnetic.update-mag v)) ≡ one-reply (updates.update-mag w f v)
+    pub all-three : (g a : Vector) (m : Sample) → reply f (update g a m) ≡ three-replies (updates.update w f g a m)
+    pub tau-acc : (tau : Float) → reply f (on-inertial (inertial.set-tau-acc tau)) ≡ one-reply (setters.set-tau-acc w f tau)
+    pub tau-mag : (tau : Float) → reply f (on-magnetic (magnetic.set-tau-mag tau)) ≡ one-reply (setters.set-tau-mag w f tau)
+    pub motion : (on : Bool) → reply f (on-inertial (inertial.set-motion-bias-est-enabled on)) ≡ one-reply (setters.set-motion-bias-est-enabled f on)
+    pub rest : (on : Bool) → reply f (on-inertial (inertial.set-rest-bias-est-enabled on)) ≡ one-reply (setters.set-rest-bias-est-enabled w f on)
+    pub dist : (on : Bool) → reply f (set-mag-dist-rejection-enabled on) ≡ one-reply (setters.set-mag-dist-rejection-enabled w f on)
+    pub thresholds : (g a : Float) → reply f (on-inertial (inertial.set-rest-detection-thresholds g a)) ≡ one-reply (setters.set-rest-detection-thresholds w f g a)
+    pub bias : (v : Vector) (s : Sigma) → reply f (on-inertial (inertial.set-bias-estimate v s)) ≡ one-reply (setters.set-bias-estimate w f v s)
+    pub mag-ref : (norm dip : Float) → reply f (on-magnetic (magnetic.set-mag-ref norm dip)) ≡ one-reply (setters.set-mag-ref w f norm dip)
+    pub reset : reply f reset-state ≡ one-reply (setters.reset-state w f)

@@ -3,7 +3,7 @@ use mathlib.Core.Path.{_≡_}
 use mathlib.Core.Logic.{_⊎_}
 use mathlib.Core.Bool.{Bool, true, false}
 use lib.Dec.{T}
-use lib.Ieee.{Float, Format, binary64}
+use lib.Ieee.{Float, Format}
 use Rattle.limits.specs.Answers.{told}
 use Rattle.vqf.specs.Build.{house-interval, interval-or, settings-or-house, taken, fresh, new}
 use Rattle.vqf.specs.AllFinite.{all-finite}
@@ -30,4 +30,4 @@ pub record Construction : Type 0 where
   -- "Intervals 0.01 .. what the constructor takes where settings are absent": they are within limits, and the fresh house filter is what they give
   pub house-taken : (w : Format) → new w (house-interval w) interval.Absent interval.Absent settings.Absent ≡ told 0 (fresh w)
   -- "Construction never reaches 6", which is "a number the call would store is NaN or infinite": whatever is given, all numbers that it leaves are finite
-  pub leaves-finite : (gyr-ts : Float) (acc-ts mag-ts : Interval) (given : Settings) → T (all-finite (new binary64 gyr-ts acc-ts mag-ts given .left))
+  pub leaves-finite : (w : Format) (gyr-ts : Float) (acc-ts mag-ts : Interval) (given : Settings) → T (all-finite (new w gyr-ts acc-ts mag-ts given .left))

@@ -2,14 +2,14 @@
 use mathlib.Core.Path.{_≡_}
 use mathlib.Core.List.{List}
 use lib.Dec.{T}
-use lib.Ieee.{Float, Format, binary64, neg, le, fits}
+use lib.Ieee.{Float, Format, neg, le, fits}
 use Rattle.floats.specs.Notation.{Rounded, rounded, zero}
 use Rattle.floats.specs.Order.{Within}
 use Rattle.algebra.specs.declared.vector.Vector.{Vector}
 use Rattle.filters.specs.Bounds.{Gain}
 use Rattle.filters.specs.Counts.{all-from-zero}
-use Rattle.inertial.specs.Gyr.{radians}
-use Rattle.inertial.specs.HowFar.{sigma-of}
+use Rattle.tilt.specs.Scalars.{radians}
+use Rattle.inertial.specs.HowFar.{AllWithin, sigma-of}
 use Rattle.magnetic.specs.HowFar.{Angle, gain-used, Moved}
 use Rattle.vqf.specs.Asked.{delta, bias-estimate}
 use Rattle.vqf.specs.Build.{new}
@@ -22,10 +22,6 @@ use Rattle.vqf.specs.declared.types.Settings.{Settings}
 
 abbrev pub clip-of : VQF → Float
 clip-of f = f .inertial .params .rest .«bias_clip»
-
--- each component within ±c
-abbrev pub AllWithin : Float → Vector → Type 0
-AllWithin c v = Within (v .0) (neg c) c × Within (v .1) (neg c) c × Within (v .2) (neg c) c
 
 module _ (w : Format) where
   open Rounded (rounded w) using (_⊕_)
@@ -64,8 +60,8 @@ pub record HowFar : Type 0 where
   -- the clip is the filter's own: no call changes it
   pub clip-kept : (w : Format) (gyr-ts : Float) (acc-ts mag-ts : Interval) (given : Settings) (calls : List Call)
       → let f = new w gyr-ts acc-ts mag-ts given .left in clip-of (run w f calls) ≡ clip-of f
-  -- at binary64, "every stored number is finite". The covariance has no other bound; the sigma that is told of it is no larger than that of the first covariance
-  pub finite : StaysFinite
-  pub sigma : (gyr-ts : Float) (acc-ts mag-ts : Interval) (given : Settings) (calls : List Call)
-      → let f = run binary64 (new binary64 gyr-ts acc-ts mag-ts given .left) calls in
-      Within (bias-estimate binary64 f .sigma) (zero binary64) (sigma-of binary64 (f .inertial .coeffs .bias .«bias_p0»))
+  -- "every stored number is finite". The covariance has no other bound; the sigma that is told of it is no larger than that of the first covariance
+  pub finite : (w : Format) → StaysFinite w
+  pub sigma : (w : Format) (gyr-ts : Float) (acc-ts mag-ts : Interval) (given : Settings) (calls : List Call)
+      → let f = run w (new w gyr-ts acc-ts mag-ts given .left) calls in
+      Within (bias-estimate w f .sigma) (zero w) (sigma-of w (f .inertial .coeffs .bias .«bias_p0»))

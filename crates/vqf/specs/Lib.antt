@@ -1,10 +1,12 @@
-pub mod Whole
+pub mod Types
+pub mod Told
 pub mod Build
 pub mod Update
 pub mod Setters
 pub mod Asked
 pub mod Calls
 pub mod Refused
+pub mod Struck
 pub mod Apart
 pub mod RestHistory
 pub mod AllFinite

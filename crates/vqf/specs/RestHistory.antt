@@ -4,12 +4,13 @@ use mathlib.Core.Path.{_≡_}
 use mathlib.Core.List.{List}
 use lib.Ieee.{Float, Format}
 use Rattle.inertial.specs.Calls.{Answered, answered}
-use Rattle.inertial.specs.RestHistory.{opened, written, events, told-rest, Holds}
+use Rattle.tilt.specs.RestHistory.{told-rest}
+use Rattle.inertial.specs.RestHistory.{opened, written, events, Holds}
 use Rattle.inertial.specs.declared.types.InertialParams.{InertialParams}
 use Rattle.vqf.specs.Build.{interval-or, settings-or-house, new}
 use Rattle.vqf.specs.Asked.{rest-detected}
 use Rattle.vqf.specs.Calls.{Call, inertial-calls, run}
-use Rattle.vqf.specs.Apart.{plain-answers}
+use Rattle.vqf.specs.Struck.{plain-answers}
 use Rattle.vqf.specs.declared.types.VQF.{VQF}
 use Rattle.vqf.specs.declared.types.Interval.{Interval}
 use Rattle.vqf.specs.declared.types.Settings.{Settings}

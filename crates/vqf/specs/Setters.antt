@@ -6,7 +6,7 @@ use Rattle.limits.specs.Answers.{Told, told}
 use Rattle.inertial.specs.Setters as inertial
 use Rattle.inertial.specs.declared.setters.Sigma.{Sigma}
 use Rattle.magnetic.specs.Setters as magnetic
-use Rattle.vqf.specs.Whole.{halves, inertially, magnetically}
+use Rattle.vqf.specs.Told.{halves, inertially, magnetically}
 use Rattle.vqf.specs.declared.types.VQF.{VQF}
 
 unfoldable pub set-motion-bias-est-enabled : VQF → Bool → Told VQF

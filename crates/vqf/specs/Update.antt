@@ -4,11 +4,11 @@ use Rattle.algebra.specs.declared.vector.Vector.{Vector}
 use Rattle.limits.specs.Answers.{Told, told}
 use Rattle.inertial.specs.Gyr as gyr
 use Rattle.inertial.specs.Acc as acc
-use Rattle.inertial.specs.Setters.{quat-6d}
+use Rattle.inertial.specs.Asked.{quat-6d}
 use Rattle.inertial.specs.declared.types.Inertial.{Inertial}
 use Rattle.magnetic.specs.Step as mag
 use Rattle.magnetic.specs.declared.types.Seen.{Seen}
-use Rattle.vqf.specs.Whole.{ToldAll, inertially, magnetically}
+use Rattle.vqf.specs.Told.{ToldAll, inertially, magnetically}
 use Rattle.vqf.specs.declared.types.VQF.{VQF}
 use Rattle.vqf.specs.declared.types.Sample.{Sample}
 use Rattle.vqf.specs.declared.types.Sample.the-variants.{Absent, Given}

@@ -20,7 +20,7 @@ use Rattle.limits.specs.Answers.{told}
 use Rattle.inertial.specs.Told.{state-of, with-state}
 use Rattle.inertial.specs.Setters.{with-rest-params}
 use Rattle.inertial.specs.declared.types.Bias.{Bias}
-use Rattle.inertial.specs.declared.types.RestParams.{RestParams}
+use Rattle.tilt.specs.declared.types.RestParams.{RestParams}
 use Rattle.inertial.specs.declared.setters.Sigma.the-variants.{Absent, Given}
 use Rattle.vqf.specs.Build as build
 use Rattle.vqf.specs.Update.{update-gyr, update-gyr-with-ts, update-acc}

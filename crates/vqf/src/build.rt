@@ -1,7 +1,7 @@
 // The constructor and the fresh house filter.
 ghost use mathlib.Core.Path.{_≡_};
 ghost use lib.Ieee.{binary64};
-ghost use Rattle.vqf.specs.Whole.{told-of};
+ghost use Rattle.vqf.specs.Told.{told-of};
 ghost use Rattle.vqf.specs.Build.{house, interval-or, settings-or-house, taken, built, fresh, new};
 use crate::types::Interval;
 use crate::types::Params;
@@ -15,6 +15,7 @@ use magnetic::Magnetic;
 use magnetic::MagneticParams;
 
 impl Params {
+    // The house settings.
     pub fn house() -> Params
         ensures { λ r. ⌜ r ≡ house binary64 ⌝ }
     {

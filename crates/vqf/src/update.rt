@@ -3,7 +3,7 @@ ghost use mathlib.Core.Path.{_≡_};
 ghost use lib.Ieee.{binary64};
 ghost use Rattle.inertial.specs.Told.{told-of as inertial-told};
 ghost use Rattle.magnetic.specs.Told.{told-of as magnetic-told};
-ghost use Rattle.vqf.specs.Whole.{told-of, all-told, inertially, magnetically};
+ghost use Rattle.vqf.specs.Told.{told-of, all-told, inertially, magnetically};
 ghost use Rattle.vqf.specs.Update.{seen, update-gyr-with-ts, update-gyr, update-acc, update-mag, update-sample, update};
 use crate::types::Sample;
 use crate::types::Updated;
@@ -49,6 +49,7 @@ impl VQF {
         Updated { answer, filter }
     }
 
+    // A gyro sample in rad/s that lasted ts seconds.
     pub fn update_gyr_with_ts(self, gyr: Vector, ts: f64) -> Updated
         ensures { λ r. ⌜ told-of r ≡ update-gyr-with-ts binary64 self gyr ts ⌝ }
     {
@@ -57,6 +58,7 @@ impl VQF {
         self.inertially(u)
     }
 
+    // A gyro sample in rad/s.
     pub fn update_gyr(self, gyr: Vector) -> Updated
         ensures { λ r. ⌜ told-of r ≡ update-gyr binary64 self gyr ⌝ }
     {
@@ -65,6 +67,7 @@ impl VQF {
         self.inertially(u)
     }
 
+    // An accelerometer sample in m/s².
     pub fn update_acc(self, acc: Vector) -> Updated
         ensures { λ r. ⌜ told-of r ≡ update-acc binary64 self acc ⌝ }
     {
@@ -73,6 +76,7 @@ impl VQF {
         self.inertially(u)
     }
 
+    // A magnetometer sample, always in the same unit.
     pub fn update_mag(self, mag: Vector) -> Updated
         ensures { λ r. ⌜ told-of r ≡ update-mag binary64 self mag ⌝ }
     {

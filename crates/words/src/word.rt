@@ -48,6 +48,7 @@ impl Word {
         decimal: Decimal::START,
     };
 
+    // The word with one more byte.
     pub fn with(self, byte: u8) -> Word
         ensures { λ r. ⌜ r ≡ word-with self byte ⌝ }
     {

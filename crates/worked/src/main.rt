@@ -38,15 +38,7 @@ fn put_flag(field: &[u8], flag: bool) {
 
 fn put_answer(field: &[u8], answer: Answer) {
     put(field);
-    match answer {
-        Answer::Done => put(b"0\n"),
-        Answer::ZeroSample => put(b"1\n"),
-        Answer::BadSample => put(b"2\n"),
-        Answer::BadInterval => put(b"3\n"),
-        Answer::BadSetting => put(b"4\n"),
-        Answer::Singular => put(b"5\n"),
-        Answer::NotFinite => put(b"6\n"),
-    }
+    put(&[answer.digit(), b'\n']);
 }
 
 // What an averaging channel counts; a running one counts nothing.

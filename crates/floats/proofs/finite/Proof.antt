@@ -1,12 +1,8 @@
 -- x - x is a zero exactly where x is finite.
 use lib.Ieee.{binary64, ofBits}
 use Rattle.floats.specs.SelfDifference.{finite-test}
-use Rattle.floats.proofs.finite.Statement.{statement}
-use Rattle.floats.proofs.finite.Tie as tie
+use Rattle.floats.proofs.finite as this
 
-returns : tie.Need-returns
+pub finite-spec : {M : Type 1} → this.Statement.statement M
 unfolding ofBits
-returns c = finite-test binary64 (c .args .x)
-
-pub finite-spec : {M : Type 1} → statement M
-finite-spec = tie.close (tie.spec returns)
+finite-spec = let met = this.Tie.spec (λ c. finite-test binary64 (c .args .x)) in this.Tie.close met

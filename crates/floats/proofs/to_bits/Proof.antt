@@ -3,18 +3,10 @@ use mathlib.Core.Path.{sym, ap}
 use lib.Ieee.{binary64, toBits}
 use borrow.Author.Needs.{needs}
 use Rattle.floats.specs.NoNan.{self-equal, not-self-equal}
-use Rattle.floats.proofs.to_bits.Statement.{statement}
-use Rattle.floats.proofs.to_bits.Tie as tie
+use Rattle.floats.proofs.to_bits as this
 
-float-to-bits-result : tie.Need-float-to-bits-result
-float-to-bits-result c = self-equal (c .before .args .x) (c .if1 .taken)
-
-returns : tie.Need-returns
-returns c = search needs
-
-returns-2 : tie.Need-returns-2
+pub to-bits-spec : {M : Type 1} → this.Statement.statement M
 unfolding toBits
-returns-2 c = sym (ap (toBits binary64) (not-self-equal (c .before .args .x) (c .if1 .left)))
-
-pub to-bits-spec : {M : Type 1} → statement M
-to-bits-spec = tie.close (tie.spec float-to-bits-result returns returns-2)
+to-bits-spec = let met = this.Tie.spec
+    (λ c. self-equal (c .before .args .x) (c .if1 .taken)) (λ c. search needs)
+    (λ c. sym (ap (toBits binary64) (not-self-equal (c .before .args .x) (c .if1 .left)))) in this.Tie.close met

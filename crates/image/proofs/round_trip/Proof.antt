@@ -4,22 +4,9 @@ use lib.ListN.{length-map}
 use Rattle.image.specs.Image.{unpack}
 use Rattle.image.proofs.Inverse.{unpack-pack}
 use borrow.Author.Needs.{needs}
-use Rattle.image.proofs.round_trip.Statement.{statement}
-use Rattle.image.proofs.round_trip.Tie as tie
+use Rattle.image.proofs.round_trip as this
 
-slice-aggregate-pack : tie.Need-slice-aggregate-pack
-slice-aggregate-pack c = search needs
-
-pack-requires : tie.Need-pack-requires
-pack-requires c κs = search needs
-
-slice-aggregate-unpack : tie.Need-slice-aggregate-unpack
-slice-aggregate-unpack c = search needs
-
-unpack-requires : tie.Need-unpack-requires
-unpack-requires c κs = search needs
-
-returns : tie.Need-returns
+returns : this.Tie.Need-returns
 returns c =
     let s = c .before .before .before .before .before in
     let inertial = s .good .0 .1 .1 .0 in
@@ -39,7 +26,5 @@ returns c =
       norm-dip-lp = simp length-map at (field .1 .1 .1 .1 .1 .1 .1 .1 .1 .1 .1 .0 .1 .0 .1);
     })
 
-pub round-trip-spec : {M : Type 1} → statement M
-round-trip-spec =
-    tie.close
-    (tie.spec slice-aggregate-pack pack-requires slice-aggregate-unpack unpack-requires returns)
+pub round-trip-spec : {M : Type 1} → this.Statement.statement M
+round-trip-spec = let met = this.Tie.spec (λ c. search needs) (λ c κs. tt) (λ c. search needs) (λ c κs. tt) returns in this.Tie.close met

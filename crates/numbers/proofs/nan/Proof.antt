@@ -1,12 +1,8 @@
 -- 0 / 0 is no number.
 use mathlib.Core.Path.{refl}
 use lib.Ieee.{div, ofBits}
-use Rattle.numbers.proofs.nan.Statement.{statement}
-use Rattle.numbers.proofs.nan.Tie as tie
+use Rattle.numbers.proofs.nan as this
 
-returns : tie.Need-returns
+pub nan-spec : {M : Type 1} → this.Statement.statement M
 unfolding div ofBits
-returns c = refl
-
-pub nan-spec : {M : Type 1} → statement M
-nan-spec = tie.close (tie.spec returns)
+nan-spec = let met = this.Tie.spec (λ c. refl) in this.Tie.close met

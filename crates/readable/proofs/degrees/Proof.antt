@@ -1,12 +1,8 @@
 -- The code is the definition, operation by operation.
 use mathlib.Core.Path.{refl}
 use Rattle.readable.specs.Angles.{degrees}
-use Rattle.readable.proofs.degrees.Statement.{statement}
-use Rattle.readable.proofs.degrees.Tie as tie
+use Rattle.readable.proofs.degrees as this
 
-returns : tie.Need-returns
+pub degrees-spec : {M : Type 1} → this.Statement.statement M
 unfolding degrees
-returns c = refl
-
-pub degrees-spec : {M : Type 1} → statement M
-degrees-spec = tie.close (tie.spec returns)
+degrees-spec = let met = this.Tie.spec (λ c. refl) in this.Tie.close met

@@ -1,12 +1,8 @@
 -- The code is the definition, operation by operation.
 use mathlib.Core.Path.{refl}
 use Rattle.algebra.specs.Matrices.{dot}
-use Rattle.algebra.proofs.matrix.dot.Statement.{statement}
-use Rattle.algebra.proofs.matrix.dot.Tie as tie
+use Rattle.algebra.proofs.matrix.dot as this
 
-returns : tie.Need-returns
+pub dot-spec : {M : Type 1} → this.Statement.statement M
 unfolding dot
-returns c = refl
-
-pub dot-spec : {M : Type 1} → statement M
-dot-spec = tie.close (tie.spec returns)
+dot-spec = let met = this.Tie.spec (λ c. refl) in this.Tie.close met

@@ -2,20 +2,8 @@
 use native.Mathlib.Omega.{arith}
 use lib.ListN.{length-take}
 use borrow.Author.Needs.{needs}
-use Rattle.calls.proofs.output.flush.Statement.{statement}
-use Rattle.calls.proofs.output.flush.Tie as tie
+use Rattle.calls.proofs.output.flush as this
 
-slice-aggregate-write-all : tie.Need-slice-aggregate-write-all
-slice-aggregate-write-all c = simp (length-take) (omega arith)
-
-write-all-requires : tie.Need-write-all-requires
-write-all-requires c κs = search needs
-
-returns : tie.Need-returns
-returns c = search needs
-
-returns-2 : tie.Need-returns-2
-returns-2 c = search needs
-
-pub flush-spec : {M : Type 1} → statement M
-flush-spec = tie.close (tie.spec slice-aggregate-write-all write-all-requires returns returns-2)
+pub flush-spec : {M : Type 1} → this.Statement.statement M
+flush-spec = let met = this.Tie.spec
+    (λ c. simp (length-take) (omega arith)) (λ c κs. tt) (λ c. search needs) (λ c. search needs) in this.Tie.close met

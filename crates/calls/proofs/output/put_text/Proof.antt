@@ -3,46 +3,15 @@ use Prim.Native.Nat.{_-_, _≤_}
 use borrow.Author.Needs.{needs}
 use lib.ListN.{length}
 use mathlib.Core.Path.{_≡_}
-use Rattle.calls.proofs.output.put_text.Statement.{statement}
-use Rattle.calls.proofs.output.put_text.Tie as tie
+use Rattle.calls.proofs.output.put_text as this
 
-abbrev Inv-loop : tie.InvT-loop
+abbrev Inv-loop : this.Tie.InvT-loop
 Inv-loop out₀ at₀ text i₀ i-end out at i = (i-end ≡ length text) × (i ≤ i-end)
 
-abbrev μ-loop : tie.MeasureT-loop
+abbrev μ-loop : this.Tie.MeasureT-loop
 μ-loop out₀ at₀ text i₀ i-end out at i = i-end - i
 
-loop-holds : tie.Need-loop-holds Inv-loop μ-loop
-loop-holds c = search needs
-
-shared-slice-read-put : tie.Need-shared-slice-read-put Inv-loop μ-loop
-shared-slice-read-put c = search needs
-
-put-requires : tie.Need-put-requires Inv-loop μ-loop
-put-requires c κs = search needs
-
-add-i : tie.Need-add-i Inv-loop μ-loop
-add-i c = search needs
-
-loop-less : tie.Need-loop-less Inv-loop μ-loop
-loop-less c = search needs
-
-loop-again : tie.Need-loop-again Inv-loop μ-loop
-loop-again c = search needs
-
-returns : tie.Need-returns Inv-loop μ-loop
-returns c = search needs
-
-pub put-text-spec : {M : Type 1} → statement M
-put-text-spec =
-    tie.close
-    (tie.spec
-    Inv-loop
-    μ-loop
-    loop-holds
-    shared-slice-read-put
-    put-requires
-    add-i
-    loop-less
-    loop-again
-    returns)
+pub put-text-spec : {M : Type 1} → this.Statement.statement M
+put-text-spec = let met = this.Tie.spec
+    Inv-loop μ-loop (λ c. search needs) (λ c. search needs) (λ c. search needs) (λ c. search needs) (λ c. search needs) (λ c. search needs)
+    (λ c. search needs) in this.Tie.close met

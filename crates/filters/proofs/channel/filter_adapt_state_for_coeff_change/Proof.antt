@@ -6,26 +6,15 @@ use Rattle.filters.specs.declared.coeffs.Coeffs.{Coeffs}
 use Rattle.filters.specs.declared.channel.Channel.{Channel}
 use Rattle.filters.specs.declared.channel.Phase.the-variants.{Averaging}
 use borrow.Author.Needs.{needs}
-use Rattle.filters.proofs.channel.filter_adapt_state_for_coeff_change.Statement.{statement}
-use Rattle.filters.proofs.channel.filter_adapt_state_for_coeff_change.Tie as tie
+use Rattle.filters.proofs.channel.filter_adapt_state_for_coeff_change as this
 
 kept : (y : Float) (old new : Coeffs) (c : Channel) (count sum : Float) → c .phase ≡ Averaging count sum → c ≡ filter-adapt-state-for-coeff-change y old new c
 unfolding filter-adapt-state-for-coeff-change
 kept y old new c count sum e = λ j. record { phase = (e ∙ sym (ap (adapt-phase y old new) e)) j }
 
-enum-told : tie.Need-enum-told
-enum-told c = search needs
-
-enum-known-phase : tie.Need-enum-known-phase
-enum-known-phase c = search needs
-
-returns : tie.Need-returns
-returns c = let a = c .before .before .args in kept (a .last-y) (a .old) (a .new) (a .channel) _ _ (c .enum-told .given .1)
-
-returns-2 : tie.Need-returns-2
+pub filter-adapt-state-for-coeff-change-spec : {M : Type 1} → this.Statement.statement M
 unfolding filter-adapt-state-for-coeff-change
-returns-2 c = simp (c .before .before .before .before .before .before .before .phase .given .1)
-
-pub filter-adapt-state-for-coeff-change-spec : {M : Type 1} → statement M
-filter-adapt-state-for-coeff-change-spec =
-    tie.close (tie.spec enum-told enum-known-phase returns returns-2)
+filter-adapt-state-for-coeff-change-spec = let met = this.Tie.spec
+    (λ c. search needs) (λ c. search needs)
+    (λ c. let a = c .before .before .args in kept (a .last-y) (a .old) (a .new) (a .channel) _ _ (c .enum-told .given .1))
+    (λ c. simp (c .before .before .before .before .before .before .before .phase .given .1)) in this.Tie.close met

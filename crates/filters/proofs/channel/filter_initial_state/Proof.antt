@@ -1,12 +1,8 @@
 -- The code is the definition, operation by operation.
 use mathlib.Core.Path.{refl}
 use Rattle.filters.specs.Channels.{filter-initial-state}
-use Rattle.filters.proofs.channel.filter_initial_state.Statement.{statement}
-use Rattle.filters.proofs.channel.filter_initial_state.Tie as tie
+use Rattle.filters.proofs.channel.filter_initial_state as this
 
-returns : tie.Need-returns
+pub filter-initial-state-spec : {M : Type 1} → this.Statement.statement M
 unfolding filter-initial-state
-returns c = refl
-
-pub filter-initial-state-spec : {M : Type 1} → statement M
-filter-initial-state-spec = tie.close (tie.spec returns)
+filter-initial-state-spec = let met = this.Tie.spec (λ c. refl) in this.Tie.close met

@@ -1,12 +1,8 @@
 -- The code is the definition, operation by operation.
 use mathlib.Core.Path.{refl}
 use Rattle.filters.specs.Channels.{filter-step}
-use Rattle.filters.proofs.channel.filter_step.Statement.{statement}
-use Rattle.filters.proofs.channel.filter_step.Tie as tie
+use Rattle.filters.proofs.channel.filter_step as this
 
-returns : tie.Need-returns
+pub filter-step-spec : {M : Type 1} → this.Statement.statement M
 unfolding filter-step
-returns c = refl
-
-pub filter-step-spec : {M : Type 1} → statement M
-filter-step-spec = tie.close (tie.spec returns)
+filter-step-spec = let met = this.Tie.spec (λ c. refl) in this.Tie.close met

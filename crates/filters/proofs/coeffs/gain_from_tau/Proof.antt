@@ -1,23 +1,9 @@
 -- By what the calls ensure and the tests on the way.
 use Rattle.filters.specs.Coefficients.{gain-from-tau}
-use borrow.Author.Needs.{needs}
-use Rattle.filters.proofs.coeffs.gain_from_tau.Statement.{statement}
-use Rattle.filters.proofs.coeffs.gain_from_tau.Tie as tie
+use Rattle.filters.proofs.coeffs.gain_from_tau as this
 
-exp-requires : tie.Need-exp-requires
-exp-requires c κs = search needs
-
-returns : tie.Need-returns
+pub gain-from-tau-spec : {M : Type 1} → this.Statement.statement M
 unfolding gain-from-tau
-returns c = simp (c .if1 .taken)
-
-returns-2 : tie.Need-returns-2
-unfolding gain-from-tau
-returns-2 c = simp (c .if2 .taken, c .before .if1 .left)
-
-returns-3 : tie.Need-returns-3
-unfolding gain-from-tau
-returns-3 c = simp (c .exp .ensures, c .before .if2 .left, c .before .before .if1 .left)
-
-pub gain-from-tau-spec : {M : Type 1} → statement M
-gain-from-tau-spec = tie.close (tie.spec exp-requires returns returns-2 returns-3)
+gain-from-tau-spec = let met = this.Tie.spec
+    (λ c κs. tt) (λ c. simp (c .if1 .taken)) (λ c. simp (c .if2 .taken, c .before .if1 .left))
+    (λ c. simp (c .exp .ensures, c .before .if2 .left, c .before .before .if1 .left)) in this.Tie.close met

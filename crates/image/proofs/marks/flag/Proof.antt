@@ -1,15 +1,7 @@
 -- By the branch taken.
 use Rattle.image.specs.Marks.{flag}
-use Rattle.image.proofs.marks.flag.Statement.{statement}
-use Rattle.image.proofs.marks.flag.Tie as tie
+use Rattle.image.proofs.marks.flag as this
 
-returns : tie.Need-returns
+pub flag-spec : {M : Type 1} → this.Statement.statement M
 unfolding flag
-returns c = simp (c .if1 .taken)
-
-returns-2 : tie.Need-returns-2
-unfolding flag
-returns-2 c = simp (c .if1 .left)
-
-pub flag-spec : {M : Type 1} → statement M
-flag-spec = tie.close (tie.spec returns returns-2)
+flag-spec = let met = this.Tie.spec (λ c. simp (c .if1 .taken)) (λ c. simp (c .if1 .left)) in this.Tie.close met

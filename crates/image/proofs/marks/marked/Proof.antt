@@ -1,22 +1,9 @@
 -- By the branch taken.
 use Rattle.image.specs.Marks.{marked}
 use borrow.Author.Needs.{needs}
-use Rattle.image.proofs.marks.marked.Statement.{statement}
-use Rattle.image.proofs.marks.marked.Tie as tie
+use Rattle.image.proofs.marks.marked as this
 
-enum-known-phase : tie.Need-enum-known-phase
-enum-known-phase c = search needs
-
-enum-known-phase-2 : tie.Need-enum-known-phase-2
-enum-known-phase-2 c = search needs
-
-returns : tie.Need-returns
+pub marked-spec : {M : Type 1} → this.Statement.statement M
 unfolding marked
-returns c = simp (c .before .phase .given .1)
-
-returns-2 : tie.Need-returns-2
-unfolding marked
-returns-2 c = simp (c .before .phase2 .given .1)
-
-pub marked-spec : {M : Type 1} → statement M
-marked-spec = tie.close (tie.spec enum-known-phase enum-known-phase-2 returns returns-2)
+marked-spec = let met = this.Tie.spec
+    (λ c. search needs) (λ c. search needs) (λ c. simp (c .before .phase .given .1)) (λ c. simp (c .before .phase2 .given .1)) in this.Tie.close met

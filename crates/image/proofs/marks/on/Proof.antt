@@ -1,12 +1,8 @@
 -- By the branch taken.
 use mathlib.Core.Path.{refl}
 use Rattle.image.specs.Marks.{on}
-use Rattle.image.proofs.marks.on.Statement.{statement}
-use Rattle.image.proofs.marks.on.Tie as tie
+use Rattle.image.proofs.marks.on as this
 
-returns : tie.Need-returns
+pub on-spec : {M : Type 1} → this.Statement.statement M
 unfolding on
-returns c = refl
-
-pub on-spec : {M : Type 1} → statement M
-on-spec = tie.close (tie.spec returns)
+on-spec = let met = this.Tie.spec (λ c. refl) in this.Tie.close met

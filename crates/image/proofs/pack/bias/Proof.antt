@@ -1,12 +1,8 @@
 -- Number by number.
 use mathlib.Core.Path.{refl}
 use Rattle.image.specs.Pack.{bias}
-use Rattle.image.proofs.pack.bias.Statement.{statement}
-use Rattle.image.proofs.pack.bias.Tie as tie
+use Rattle.image.proofs.pack.bias as this
 
-returns : tie.Need-returns
+pub bias-spec : {M : Type 1} → this.Statement.statement M
 unfolding bias
-returns c = refl
-
-pub bias-spec : {M : Type 1} → statement M
-bias-spec = tie.close (tie.spec returns)
+bias-spec = let met = this.Tie.spec (λ c. refl) in this.Tie.close met

@@ -1,12 +1,8 @@
 -- Number by number.
 use mathlib.Core.Path.{refl}
 use Rattle.image.specs.Pack.{inclination}
-use Rattle.image.proofs.pack.inclination.Statement.{statement}
-use Rattle.image.proofs.pack.inclination.Tie as tie
+use Rattle.image.proofs.pack.inclination as this
 
-returns : tie.Need-returns
+pub inclination-spec : {M : Type 1} → this.Statement.statement M
 unfolding inclination
-returns c = refl
-
-pub inclination-spec : {M : Type 1} → statement M
-inclination-spec = tie.close (tie.spec returns)
+inclination-spec = let met = this.Tie.spec (λ c. refl) in this.Tie.close met

@@ -1,12 +1,8 @@
 -- Number by number.
 use mathlib.Core.Path.{refl}
 use Rattle.image.specs.Pack.{inertial-coeffs}
-use Rattle.image.proofs.pack.inertial_coeffs.Statement.{statement}
-use Rattle.image.proofs.pack.inertial_coeffs.Tie as tie
+use Rattle.image.proofs.pack.inertial_coeffs as this
 
-returns : tie.Need-returns
+pub inertial-coeffs-spec : {M : Type 1} → this.Statement.statement M
 unfolding inertial-coeffs
-returns c = refl
-
-pub inertial-coeffs-spec : {M : Type 1} → statement M
-inertial-coeffs-spec = tie.close (tie.spec returns)
+inertial-coeffs-spec = let met = this.Tie.spec (λ c. refl) in this.Tie.close met

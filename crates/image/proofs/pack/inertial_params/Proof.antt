@@ -1,21 +1,9 @@
 -- Number by number.
 use Rattle.image.specs.Pack.{inertial-params}
-use borrow.Author.Needs.{needs}
-use Rattle.image.proofs.pack.inertial_params.Statement.{statement}
-use Rattle.image.proofs.pack.inertial_params.Tie as tie
+use Rattle.image.proofs.pack.inertial_params as this
 
-flag-requires : tie.Need-flag-requires
-flag-requires c κs = search needs
-
-flag-requires-2 : tie.Need-flag-requires-2
-flag-requires-2 c κs = search needs
-
-flag-requires-3 : tie.Need-flag-requires-3
-flag-requires-3 c κs = search needs
-
-returns : tie.Need-returns
+pub inertial-params-spec : {M : Type 1} → this.Statement.statement M
 unfolding inertial-params
-returns c = simp (c .flag3 .ensures, c .before .flag2 .ensures, c .before .before .flag .ensures)
-
-pub inertial-params-spec : {M : Type 1} → statement M
-inertial-params-spec = tie.close (tie.spec flag-requires flag-requires-2 flag-requires-3 returns)
+inertial-params-spec = let met = this.Tie.spec
+    (λ c κs. tt) (λ c κs. tt) (λ c κs. tt)
+    (λ c. simp (c .flag3 .ensures, c .before .flag2 .ensures, c .before .before .flag .ensures)) in this.Tie.close met

@@ -1,12 +1,8 @@
 -- Number by number.
 use mathlib.Core.Path.{refl}
 use Rattle.image.specs.Pack.{magnetic-params}
-use Rattle.image.proofs.pack.magnetic_params.Statement.{statement}
-use Rattle.image.proofs.pack.magnetic_params.Tie as tie
+use Rattle.image.proofs.pack.magnetic_params as this
 
-returns : tie.Need-returns
+pub magnetic-params-spec : {M : Type 1} → this.Statement.statement M
 unfolding magnetic-params
-returns c = refl
-
-pub magnetic-params-spec : {M : Type 1} → statement M
-magnetic-params-spec = tie.close (tie.spec returns)
+magnetic-params-spec = let met = this.Tie.spec (λ c. refl) in this.Tie.close met

@@ -1,15 +1,7 @@
 -- Number by number.
 use Rattle.image.specs.Pack.{magnetic-state}
-use borrow.Author.Needs.{needs}
-use Rattle.image.proofs.pack.magnetic_state.Statement.{statement}
-use Rattle.image.proofs.pack.magnetic_state.Tie as tie
+use Rattle.image.proofs.pack.magnetic_state as this
 
-flag-requires : tie.Need-flag-requires
-flag-requires c κs = search needs
-
-returns : tie.Need-returns
+pub magnetic-state-spec : {M : Type 1} → this.Statement.statement M
 unfolding magnetic-state
-returns c = simp (c .flag .ensures)
-
-pub magnetic-state-spec : {M : Type 1} → statement M
-magnetic-state-spec = tie.close (tie.spec flag-requires returns)
+magnetic-state-spec = let met = this.Tie.spec (λ c κs. tt) (λ c. simp (c .flag .ensures)) in this.Tie.close met

@@ -1,15 +1,7 @@
 -- Number by number.
 use Rattle.image.specs.Pack.{rest}
-use borrow.Author.Needs.{needs}
-use Rattle.image.proofs.pack.rest.Statement.{statement}
-use Rattle.image.proofs.pack.rest.Tie as tie
+use Rattle.image.proofs.pack.rest as this
 
-flag-requires : tie.Need-flag-requires
-flag-requires c κs = search needs
-
-returns : tie.Need-returns
+pub rest-spec : {M : Type 1} → this.Statement.statement M
 unfolding rest
-returns c = simp (c .flag .ensures)
-
-pub rest-spec : {M : Type 1} → statement M
-rest-spec = tie.close (tie.spec flag-requires returns)
+rest-spec = let met = this.Tie.spec (λ c κs. tt) (λ c. simp (c .flag .ensures)) in this.Tie.close met

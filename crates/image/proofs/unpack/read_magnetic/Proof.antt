@@ -1,21 +1,8 @@
 -- Number by number.
 use borrow.Author.Needs.{needs}
-use Rattle.image.proofs.unpack.read_magnetic.Statement.{statement}
-use Rattle.image.proofs.unpack.read_magnetic.Tie as tie
+use Rattle.image.proofs.unpack.read_magnetic as this
 
-magnetic-params-requires : tie.Need-magnetic-params-requires
-magnetic-params-requires c κs = search needs
-
-magnetic-coeffs-requires : tie.Need-magnetic-coeffs-requires
-magnetic-coeffs-requires c κs = search needs
-
-magnetic-state-requires : tie.Need-magnetic-state-requires
-magnetic-state-requires c κs = search needs
-
-returns : tie.Need-returns
-returns c = simp (c .magnetic-state .ensures, c .before .magnetic-coeffs .ensures, c .before .before .magnetic-params .ensures)
-
-pub read-magnetic-spec : {M : Type 1} → statement M
-read-magnetic-spec =
-    tie.close
-    (tie.spec magnetic-params-requires magnetic-coeffs-requires magnetic-state-requires returns)
+pub read-magnetic-spec : {M : Type 1} → this.Statement.statement M
+read-magnetic-spec = let met = this.Tie.spec
+    (λ c. search needs) (λ c. search needs) (λ c. search needs)
+    (λ c. simp (c .magnetic-state .ensures, c .before .magnetic-coeffs .ensures, c .before .before .magnetic-params .ensures)) in this.Tie.close met

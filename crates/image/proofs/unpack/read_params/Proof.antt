@@ -1,16 +1,8 @@
 -- Number by number.
 use borrow.Author.Needs.{needs}
-use Rattle.image.proofs.unpack.read_params.Statement.{statement}
-use Rattle.image.proofs.unpack.read_params.Tie as tie
+use Rattle.image.proofs.unpack.read_params as this
 
-inertial-params-requires : tie.Need-inertial-params-requires
-inertial-params-requires c κs = search needs
-
-magnetic-params-requires : tie.Need-magnetic-params-requires
-magnetic-params-requires c κs = search needs
-
-returns : tie.Need-returns
-returns c = simp (c .magnetic-params .ensures, c .before .inertial-params .ensures)
-
-pub read-params-spec : {M : Type 1} → statement M
-read-params-spec = tie.close (tie.spec inertial-params-requires magnetic-params-requires returns)
+pub read-params-spec : {M : Type 1} → this.Statement.statement M
+read-params-spec = let met = this.Tie.spec
+    (λ c. search needs) (λ c. search needs)
+    (λ c. simp (c .magnetic-params .ensures, c .before .inertial-params .ensures)) in this.Tie.close met

@@ -1,12 +1,8 @@
 -- The code is the definition, operation by operation.
 use mathlib.Core.Path.{refl}
 use Rattle.inertial.specs.Kalman.{rotation}
-use Rattle.inertial.proofs.kalman.rotation.Statement.{statement}
-use Rattle.inertial.proofs.kalman.rotation.Tie as tie
+use Rattle.inertial.proofs.kalman.rotation as this
 
-returns : tie.Need-returns
+pub rotation-spec : {M : Type 1} → this.Statement.statement M
 unfolding rotation
-returns c = refl
-
-pub rotation-spec : {M : Type 1} → statement M
-rotation-spec = tie.close (tie.spec returns)
+rotation-spec = let met = this.Tie.spec (λ c. refl) in this.Tie.close met

@@ -1,12 +1,8 @@
 -- The code is the definition, operation by operation.
 use mathlib.Core.Path.{refl}
 use Rattle.inertial.specs.Kalman.{shifted}
-use Rattle.inertial.proofs.kalman.shifted.Statement.{statement}
-use Rattle.inertial.proofs.kalman.shifted.Tie as tie
+use Rattle.inertial.proofs.kalman.shifted as this
 
-returns : tie.Need-returns
+pub shifted-spec : {M : Type 1} → this.Statement.statement M
 unfolding shifted
-returns c = refl
-
-pub shifted-spec : {M : Type 1} → statement M
-shifted-spec = tie.close (tie.spec returns)
+shifted-spec = let met = this.Tie.spec (λ c. refl) in this.Tie.close met

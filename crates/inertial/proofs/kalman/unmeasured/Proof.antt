@@ -1,12 +1,8 @@
 -- The code is the definition, operation by operation.
 use mathlib.Core.Path.{refl}
 use Rattle.inertial.specs.Kalman.{unmeasured}
-use Rattle.inertial.proofs.kalman.unmeasured.Statement.{statement}
-use Rattle.inertial.proofs.kalman.unmeasured.Tie as tie
+use Rattle.inertial.proofs.kalman.unmeasured as this
 
-returns : tie.Need-returns
+pub unmeasured-spec : {M : Type 1} → this.Statement.statement M
 unfolding unmeasured
-returns c = refl
-
-pub unmeasured-spec : {M : Type 1} → statement M
-unmeasured-spec = tie.close (tie.spec returns)
+unmeasured-spec = let met = this.Tie.spec (λ c. refl) in this.Tie.close met

@@ -1,12 +1,8 @@
 -- The code is the definition, operation by operation.
 use mathlib.Core.Path.{refl}
 use Rattle.inertial.specs.Setters.{variance}
-use Rattle.inertial.proofs.setters.variance.Statement.{statement}
-use Rattle.inertial.proofs.setters.variance.Tie as tie
+use Rattle.inertial.proofs.setters.variance as this
 
-returns : tie.Need-returns
+pub variance-spec : {M : Type 1} → this.Statement.statement M
 unfolding variance
-returns c = refl
-
-pub variance-spec : {M : Type 1} → statement M
-variance-spec = tie.close (tie.spec returns)
+variance-spec = let met = this.Tie.spec (λ c. refl) in this.Tie.close met

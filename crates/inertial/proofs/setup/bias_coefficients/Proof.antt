@@ -1,15 +1,7 @@
 -- The definition, by what each call gives.
 use Rattle.inertial.specs.Setup.{bias-coefficients}
-use borrow.Author.Needs.{needs}
-use Rattle.inertial.proofs.setup.bias_coefficients.Statement.{statement}
-use Rattle.inertial.proofs.setup.bias_coefficients.Tie as tie
+use Rattle.inertial.proofs.setup.bias_coefficients as this
 
-larger-requires : tie.Need-larger-requires
-larger-requires c κs = search needs
-
-returns : tie.Need-returns
+pub bias-coefficients-spec : {M : Type 1} → this.Statement.statement M
 unfolding bias-coefficients
-returns c = simp (c .before .larger .ensures)
-
-pub bias-coefficients-spec : {M : Type 1} → statement M
-bias-coefficients-spec = tie.close (tie.spec larger-requires returns)
+bias-coefficients-spec = let met = this.Tie.spec (λ c κs. tt) (λ c. simp (c .before .larger .ensures)) in this.Tie.close met

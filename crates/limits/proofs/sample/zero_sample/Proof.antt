@@ -1,12 +1,8 @@
 -- The definition, by what each test gives.
 use mathlib.Core.Path.{refl}
 use Rattle.limits.specs.Limits.{zero-sample}
-use Rattle.limits.proofs.sample.zero_sample.Statement.{statement}
-use Rattle.limits.proofs.sample.zero_sample.Tie as tie
+use Rattle.limits.proofs.sample.zero_sample as this
 
-returns : tie.Need-returns
+pub zero-sample-spec : {M : Type 1} → this.Statement.statement M
 unfolding zero-sample
-returns c = refl
-
-pub zero-sample-spec : {M : Type 1} → statement M
-zero-sample-spec = tie.close (tie.spec returns)
+zero-sample-spec = let met = this.Tie.spec (λ c. refl) in this.Tie.close met

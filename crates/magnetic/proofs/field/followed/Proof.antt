@@ -1,12 +1,8 @@
 -- The code is the definition, operation by operation.
 use mathlib.Core.Path.{refl}
 use Rattle.magnetic.specs.Fields.{followed}
-use Rattle.magnetic.proofs.field.followed.Statement.{statement}
-use Rattle.magnetic.proofs.field.followed.Tie as tie
+use Rattle.magnetic.proofs.field.followed as this
 
-returns : tie.Need-returns
+pub followed-spec : {M : Type 1} → this.Statement.statement M
 unfolding followed
-returns c = refl
-
-pub followed-spec : {M : Type 1} → statement M
-followed-spec = tie.close (tie.spec returns)
+followed-spec = let met = this.Tie.spec (λ c. refl) in this.Tie.close met

@@ -1,40 +1,10 @@
 -- The definition, by what each call gives and the variant that was matched.
 use Rattle.magnetic.specs.Fields.{smoothed}
 use borrow.Author.Needs.{needs}
-use Rattle.magnetic.proofs.field.smoothed.Statement.{statement}
-use Rattle.magnetic.proofs.field.smoothed.Tie as tie
+use Rattle.magnetic.proofs.field.smoothed as this
 
-enum-told : tie.Need-enum-told
-enum-told c = search needs
-
-enum-known-smoothing : tie.Need-enum-known-smoothing
-enum-known-smoothing c = search needs
-
-filter-vec2-requires : tie.Need-filter-vec2-requires
-filter-vec2-requires c κs = search needs
-
-array-read-t17 : tie.Need-array-read-t17
-array-read-t17 c = search needs
-
-array-read-t20 : tie.Need-array-read-t20
-array-read-t20 c = search needs
-
-returns : tie.Need-returns
+pub smoothed-spec : {M : Type 1} → this.Statement.statement M
 unfolding smoothed
-returns c = simp (c .enum-told .given .1)
-
-returns-2 : tie.Need-returns-2
-unfolding smoothed
-returns-2 c = simp (c .before .before .filter-vec2 .ensures, c .before .before .before .before .before .smoothing .given .1)
-
-pub smoothed-spec : {M : Type 1} → statement M
-smoothed-spec =
-    tie.close
-    (tie.spec
-    enum-told
-    enum-known-smoothing
-    filter-vec2-requires
-    array-read-t17
-    array-read-t20
-    returns
-    returns-2)
+smoothed-spec = let met = this.Tie.spec
+    (λ c. search needs) (λ c. search needs) (λ c κs. tt) (λ c. search needs) (λ c. search needs) (λ c. simp (c .enum-told .given .1))
+    (λ c. simp (c .before .before .filter-vec2 .ensures, c .before .before .before .before .before .smoothing .given .1)) in this.Tie.close met

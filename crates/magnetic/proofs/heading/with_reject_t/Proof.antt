@@ -1,12 +1,8 @@
 -- The code is the definition, operation by operation.
 use mathlib.Core.Path.{refl}
 use Rattle.magnetic.specs.Told.{with-reject-t}
-use Rattle.magnetic.proofs.heading.with_reject_t.Statement.{statement}
-use Rattle.magnetic.proofs.heading.with_reject_t.Tie as tie
+use Rattle.magnetic.proofs.heading.with_reject_t as this
 
-returns : tie.Need-returns
+pub with-reject-t-spec : {M : Type 1} → this.Statement.statement M
 unfolding with-reject-t
-returns c = refl
-
-pub with-reject-t-spec : {M : Type 1} → statement M
-with-reject-t-spec = tie.close (tie.spec returns)
+with-reject-t-spec = let met = this.Tie.spec (λ c. refl) in this.Tie.close met

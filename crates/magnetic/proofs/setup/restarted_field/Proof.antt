@@ -1,12 +1,8 @@
 -- The code is the definition, operation by operation.
 use mathlib.Core.Path.{refl}
 use Rattle.magnetic.specs.Setup.{restarted-field}
-use Rattle.magnetic.proofs.setup.restarted_field.Statement.{statement}
-use Rattle.magnetic.proofs.setup.restarted_field.Tie as tie
+use Rattle.magnetic.proofs.setup.restarted_field as this
 
-returns : tie.Need-returns
+pub restarted-field-spec : {M : Type 1} → this.Statement.statement M
 unfolding restarted-field
-returns c = refl
-
-pub restarted-field-spec : {M : Type 1} → statement M
-restarted-field-spec = tie.close (tie.spec returns)
+restarted-field-spec = let met = this.Tie.spec (λ c. refl) in this.Tie.close met

@@ -1,12 +1,8 @@
 -- The code is the definition, line by line.
 use mathlib.Core.Path.{refl}
 use Rattle.numbers.specs.Arcs.{kasin}
-use Rattle.numbers.proofs.arcs.kasin.Statement.{statement}
-use Rattle.numbers.proofs.arcs.kasin.Tie as tie
+use Rattle.numbers.proofs.arcs.kasin as this
 
-returns : tie.Need-returns
+pub kasin-spec : {M : Type 1} → this.Statement.statement M
 unfolding kasin
-returns c = refl
-
-pub kasin-spec : {M : Type 1} → statement M
-kasin-spec = tie.close (tie.spec returns)
+kasin-spec = let met = this.Tie.spec (λ c. refl) in this.Tie.close met

@@ -1,18 +1,8 @@
 -- The code is the definition, line by line.
-use borrow.Author.Needs.{needs}
 use Rattle.numbers.specs.Arcs.{katan}
-use Rattle.numbers.proofs.arcs.katan.Statement.{statement}
-use Rattle.numbers.proofs.arcs.katan.Tie as tie
+use Rattle.numbers.proofs.arcs.katan as this
 
-ratio-requires : tie.Need-ratio-requires
-ratio-requires c κs = search needs
-
-clamp-requires : tie.Need-clamp-requires
-clamp-requires c κs = search needs
-
-returns : tie.Need-returns
+pub katan-spec : {M : Type 1} → this.Statement.statement M
 unfolding katan
-returns c = simp (c .clamp .ensures, c .before .ratio .ensures)
-
-pub katan-spec : {M : Type 1} → statement M
-katan-spec = tie.close (tie.spec ratio-requires clamp-requires returns)
+katan-spec = let met = this.Tie.spec
+    (λ c κs. tt) (λ c κs. tt) (λ c. simp (c .clamp .ensures, c .before .ratio .ensures)) in this.Tie.close met

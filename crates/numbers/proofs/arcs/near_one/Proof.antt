@@ -1,18 +1,8 @@
 -- The code is the definition, line by line.
-use borrow.Author.Needs.{needs}
 use Rattle.numbers.specs.Arcs.{near-one}
-use Rattle.numbers.proofs.arcs.near_one.Statement.{statement}
-use Rattle.numbers.proofs.arcs.near_one.Tie as tie
+use Rattle.numbers.proofs.arcs.near_one as this
 
-sqrt-requires : tie.Need-sqrt-requires
-sqrt-requires c κs = search needs
-
-kasin-requires : tie.Need-kasin-requires
-kasin-requires c κs = search needs
-
-returns : tie.Need-returns
+pub near-one-spec : {M : Type 1} → this.Statement.statement M
 unfolding near-one
-returns c = simp (c .kasin .ensures, c .before .sqrt .ensures)
-
-pub near-one-spec : {M : Type 1} → statement M
-near-one-spec = tie.close (tie.spec sqrt-requires kasin-requires returns)
+near-one-spec = let met = this.Tie.spec
+    (λ c κs. tt) (λ c κs. tt) (λ c. simp (c .kasin .ensures, c .before .sqrt .ensures)) in this.Tie.close met

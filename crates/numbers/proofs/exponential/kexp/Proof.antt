@@ -1,12 +1,8 @@
 -- The code is the definition, line by line.
 use mathlib.Core.Path.{refl}
 use Rattle.numbers.specs.Exponential.{kexp}
-use Rattle.numbers.proofs.exponential.kexp.Statement.{statement}
-use Rattle.numbers.proofs.exponential.kexp.Tie as tie
+use Rattle.numbers.proofs.exponential.kexp as this
 
-returns : tie.Need-returns
+pub kexp-spec : {M : Type 1} → this.Statement.statement M
 unfolding kexp
-returns c = refl
-
-pub kexp-spec : {M : Type 1} → statement M
-kexp-spec = tie.close (tie.spec returns)
+kexp-spec = let met = this.Tie.spec (λ c. refl) in this.Tie.close met

@@ -7,36 +7,11 @@ use native.Mathlib.Nat.{le-trans}
 use native.Mathlib.Omega.{arith}
 use lib.Dec.{T, lit≤}
 use lib.Bits.{bitAnd}
-use lib.Ieee.{binary64, ofBits, nanBits, toBits}
+use lib.Ieee.{binary64, ofBits, nanBits}
 use Rattle.numbers.specs.Root.{rootOf, Closest}
 use Rattle.numbers.proofs.Floats.{no-nan}
-use Rattle.numbers.proofs.Normal.{shifted, c-lt, k-shifted, answer, bit-lt}
-use Rattle.numbers.proofs.roots.normal_pattern.Statement.{statement}
-use Rattle.numbers.proofs.roots.normal_pattern.Tie as tie
-
-shl-c : tie.Need-shl-c
-shl-c c = bit-lt (c .args .e)
-
-sub-low : tie.Need-sub-low
-sub-low c = search needs
-
-add-by-floats : tie.Need-add-by-floats
-add-by-floats c = search needs
-
-by-floats-requires : tie.Need-by-floats-requires
-by-floats-requires c κs = search needs
-
-float-to-bits-n : tie.Need-float-to-bits-n
-float-to-bits-n c = no-nan _ (c .if1 .taken)
-
-wrapping-sub-u64-requires : tie.Need-wrapping-sub-u64-requires
-wrapping-sub-u64-requires c κs = search needs
-
-is-closest-requires : tie.Need-is-closest-requires
-is-closest-requires c κs =
-    let m = c .before .before .before .before .args .m in
-    let e = c .before .before .before .before .args .e in
-    (omega arith, subst (λ (z : ℕ). z < 2 ^ 54) (sym (shifted m e (omega arith))) (c-lt m e (omega arith)))
+use Rattle.numbers.proofs.Normal.{shifted, c-lt, answer, bit-lt}
+use Rattle.numbers.proofs.roots.normal_pattern as this
 
 -- q and low make n again, and the pattern is n
 found : (m e q n : ℕ) → 2 ^ 52 ≤ m → m < 2 ^ 53 → 1074 ≤ e → e < 3120 → q < 2 ^ 53 → (q + (e - 52) / 2 * 4503599627370496 % 2 ^ 64) % 2 ^ 64 ≡ n
@@ -48,28 +23,12 @@ found m e q n lo hi E1 E2 Q p c =
     again : (k : ℕ) → k < 1534 → (q + k * 4503599627370496 % 2 ^ 64) % 2 ^ 64 ≡ n → k * 4503599627370496 + q ≡ n
     again k h p = omega arith
 
-returns : tie.Need-returns
-returns c =
-    let s = c .before .before .before .before .before .before in
-    found (s .args .m) (s .args .e) (c .before .before .before .wrapping-sub-u64 .result) _ (s .pre .1) (s .pre .2) (s .pre .3) (s .pre .4) (omega arith) (c .before .before .before .wrapping-sub-u64 .ensures) (c .before .is-closest .ensures (c .if3 .taken))
-
-root-pattern-requires : tie.Need-root-pattern-requires
-root-pattern-requires c κs = search needs
-
-returns-2 : tie.Need-returns-2
-returns-2 c = search needs
-
-pub normal-pattern-spec : {M : Type 1} → statement M
-normal-pattern-spec =
-    tie.close
-    (tie.spec
-    shl-c
-    sub-low
-    add-by-floats
-    by-floats-requires
-    float-to-bits-n
-    wrapping-sub-u64-requires
-    is-closest-requires
-    returns
-    root-pattern-requires
-    returns-2)
+pub normal-pattern-spec : {M : Type 1} → this.Statement.statement M
+normal-pattern-spec = let met = this.Tie.spec
+    (λ c. bit-lt (c .args .e)) (λ c. search needs) (λ c. search needs) (λ c. search needs) (λ c. no-nan _ (c .if1 .taken)) (λ c κs. tt)
+    (λ c κs. let m = c .before .before .before .before .args .m in
+    let e = c .before .before .before .before .args .e in
+    (omega arith, subst (λ (z : ℕ). z < 2 ^ 54) (sym (shifted m e (omega arith))) (c-lt m e (omega arith))))
+    (λ c. let s = c .before .before .before .before .before .before in
+    found (s .args .m) (s .args .e) (c .before .before .before .wrapping-sub-u64 .result) _ (s .pre .1) (s .pre .2) (s .pre .3) (s .pre .4) (omega arith) (c .before .before .before .wrapping-sub-u64 .ensures) (c .before .is-closest .ensures (c .if3 .taken)))
+    (λ c. search needs) (λ c. search needs) in this.Tie.close met

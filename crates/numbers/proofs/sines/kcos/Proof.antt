@@ -1,12 +1,8 @@
 -- The code is the definition, line by line.
 use mathlib.Core.Path.{refl}
 use Rattle.numbers.specs.Sines.{kcos}
-use Rattle.numbers.proofs.sines.kcos.Statement.{statement}
-use Rattle.numbers.proofs.sines.kcos.Tie as tie
+use Rattle.numbers.proofs.sines.kcos as this
 
-returns : tie.Need-returns
+pub kcos-spec : {M : Type 1} → this.Statement.statement M
 unfolding kcos
-returns c = refl
-
-pub kcos-spec : {M : Type 1} → statement M
-kcos-spec = tie.close (tie.spec returns)
+kcos-spec = let met = this.Tie.spec (λ c. refl) in this.Tie.close met

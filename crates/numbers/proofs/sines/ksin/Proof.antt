@@ -1,12 +1,8 @@
 -- The code is the definition, line by line.
 use mathlib.Core.Path.{refl}
 use Rattle.numbers.specs.Sines.{ksin}
-use Rattle.numbers.proofs.sines.ksin.Statement.{statement}
-use Rattle.numbers.proofs.sines.ksin.Tie as tie
+use Rattle.numbers.proofs.sines.ksin as this
 
-returns : tie.Need-returns
+pub ksin-spec : {M : Type 1} → this.Statement.statement M
 unfolding ksin
-returns c = refl
-
-pub ksin-spec : {M : Type 1} → statement M
-ksin-spec = tie.close (tie.spec returns)
+ksin-spec = let met = this.Tie.spec (λ c. refl) in this.Tie.close met

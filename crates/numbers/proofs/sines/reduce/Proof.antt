@@ -1,12 +1,8 @@
 -- The code is the definition, line by line.
 use mathlib.Core.Path.{refl}
 use Rattle.numbers.specs.Sines.{reduce}
-use Rattle.numbers.proofs.sines.reduce.Statement.{statement}
-use Rattle.numbers.proofs.sines.reduce.Tie as tie
+use Rattle.numbers.proofs.sines.reduce as this
 
-returns : tie.Need-returns
+pub reduce-spec : {M : Type 1} → this.Statement.statement M
 unfolding reduce
-returns c = refl
-
-pub reduce-spec : {M : Type 1} → statement M
-reduce-spec = tie.close (tie.spec returns)
+reduce-spec = let met = this.Tie.spec (λ c. refl) in this.Tie.close met

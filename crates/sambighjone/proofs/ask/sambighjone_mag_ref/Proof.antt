@@ -3,17 +3,12 @@ use borrow.Author.Needs.{needs}
 use borrow.Author.Tests.{eq-eqb, ne-eqb}
 use mathlib.Core.List.{[], _∷_}
 use Rattle.sambighjone.proofs.Laws.{asked-done, asked-refused}
-use Rattle.sambighjone.proofs.ask.sambighjone_mag_ref.Statement.{statement}
-use Rattle.sambighjone.proofs.ask.sambighjone_mag_ref.Tie as tie
+use Rattle.sambighjone.proofs.ask.sambighjone_mag_ref as this
 
-returns : tie.Need-returns
-returns c = asked-refused _ _ _ (ne-eqb _ _ (c .if1 .taken))
-
-returns-2 : tie.Need-returns-2
-returns-2 c =
-    let called = c .before .before .before in
+pub sambighjone-mag-ref-spec : {M : Type 1} → this.Statement.statement M
+sambighjone-mag-ref-spec = let met = this.Tie.spec
+    (λ c. asked-refused _ _ _ (ne-eqb _ _ (c .if1 .taken))) (λ c. search needs) (λ c. search needs) (λ c. search needs) (λ c. search needs)
+    (λ c. search needs)
+    (λ c. let called = c .before .before .before in
     let read = c .before .before .before .before .before .before in
-    asked-done _ _ _ (read .unpack .result) _ _ (eq-eqb _ _ (read .before .if1 .left)) (read .unpack .ensures) (λ j. called .before .mag-ref-norm .ensures j ∷ called .mag-ref-dip .ensures j ∷ []) (c .before .before .put-two .ensures)
-
-pub sambighjone-mag-ref-spec : {M : Type 1} → statement M
-sambighjone-mag-ref-spec = tie.close (tie.spec returns (λ c κs. search needs) (λ c κs. search needs) (λ c κs. search needs) (λ c κs. search needs) (λ c. search needs) returns-2)
+    asked-done _ _ _ (read .unpack .result) _ _ (eq-eqb _ _ (read .before .if1 .left)) (read .unpack .ensures) (λ j. called .before .mag-ref-norm .ensures j ∷ called .mag-ref-dip .ensures j ∷ []) (c .before .before .put-two .ensures)) in this.Tie.close met

@@ -1,17 +1,11 @@
 -- By the branch taken.
 use borrow.Author.Needs.{needs}
 use Rattle.sambighjone.specs.Calls.{constructed}
-use Rattle.sambighjone.proofs.build.constructed.Statement.{statement}
-use Rattle.sambighjone.proofs.build.constructed.Tie as tie
+use Rattle.sambighjone.proofs.build.constructed as this
 
-returns : tie.Need-returns
+pub constructed-spec : {M : Type 1} → this.Statement.statement M
 unfolding constructed
-returns c =
-    simp (simp (c .before .before .before .flags-taken .ensures) at (c .before .before .if1 .taken), c .new .ensures, c .before .params .ensures)
-
-returns-2 : tie.Need-returns-2
-unfolding constructed
-returns-2 c = simp (simp (c .before .before .flags-taken .ensures) at (c .before .if1 .left), c .fresh .ensures)
-
-pub constructed-spec : {M : Type 1} → statement M
-constructed-spec = tie.close (tie.spec (λ c κs. search needs) (λ c κs. search needs) (λ c κs. search needs) (λ c κs. search needs) returns returns-2)
+constructed-spec = let met = this.Tie.spec
+    (λ c. search needs) (λ c. search needs) (λ c. search needs) (λ c. search needs)
+    (λ c. simp (simp (c .before .before .before .flags-taken .ensures) at (c .before .before .if1 .taken), c .new .ensures, c .before .params .ensures))
+    (λ c. simp (simp (c .before .before .flags-taken .ensures) at (c .before .if1 .left), c .fresh .ensures)) in this.Tie.close met

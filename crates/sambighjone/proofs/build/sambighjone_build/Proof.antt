@@ -5,19 +5,12 @@ use mathlib.Core.Path.{refl}
 use Rattle.image.specs.Image.{unpack}
 use Rattle.sambighjone.specs.Calls.{built}
 use Rattle.sambighjone.proofs.Laws.{fed-done}
-use Rattle.sambighjone.proofs.build.sambighjone_build.Statement.{statement}
-use Rattle.sambighjone.proofs.build.sambighjone_build.Tie as tie
+use Rattle.sambighjone.proofs.build.sambighjone_build as this
 
-returns : tie.Need-returns
+pub sambighjone-build-spec : {M : Type 1} → this.Statement.statement M
 unfolding built
-returns c = simp (ne-eqb _ _ (c .if1 .taken))
-
-returns-2 : tie.Need-returns-2
-unfolding built
-returns-2 c =
-    let called = c .before .before .before .before in
+sambighjone-build-spec = let met = this.Tie.spec
+    (λ c. simp (ne-eqb _ _ (c .if1 .taken))) (λ c. search needs) (λ c. search needs) (λ c. search needs)
+    (λ c. let called = c .before .before .before .before in
     simp (eq-eqb _ _ (called .before .if1 .left))
-    (fed-done _ _ (unpack _) (called .constructed .result) _ refl (called .constructed .ensures) (c .before .before .keep .ensures))
-
-pub sambighjone-build-spec : {M : Type 1} → statement M
-sambighjone-build-spec = tie.close (tie.spec returns (λ c κs. search needs) (λ c κs. search needs) (λ c. search needs) returns-2)
+    (fed-done _ _ (unpack _) (called .constructed .result) _ refl (called .constructed .ensures) (c .before .before .keep .ensures))) in this.Tie.close met

@@ -5,13 +5,10 @@ use Rattle.limits.specs.Answers.{told}
 use Rattle.limits.specs.declared.answer.Answer.the-variants.{Done}
 use Rattle.image.specs.Image.{unpack}
 use Rattle.sambighjone.proofs.Laws.{fed-done}
-use Rattle.sambighjone.proofs.build.sambighjone_fresh.Statement.{statement}
-use Rattle.sambighjone.proofs.build.sambighjone_fresh.Tie as tie
+use Rattle.sambighjone.proofs.build.sambighjone_fresh as this
 
-returns : tie.Need-returns
-returns c =
-    let made = c .before .before .before .before in
-    fed-done _ _ (unpack _) (record { answer = Done; filter = made .fresh .result }) _ refl (ap (told 0) (made .fresh .ensures)) (c .before .before .keep .ensures)
-
-pub sambighjone-fresh-spec : {M : Type 1} → statement M
-sambighjone-fresh-spec = tie.close (tie.spec (λ c κs. search needs) (λ c κs. search needs) (λ c. search needs) returns)
+pub sambighjone-fresh-spec : {M : Type 1} → this.Statement.statement M
+sambighjone-fresh-spec = let met = this.Tie.spec
+    (λ c. search needs) (λ c. search needs) (λ c. search needs)
+    (λ c. let made = c .before .before .before .before in
+    fed-done _ _ (unpack _) (record { answer = Done; filter = made .fresh .result }) _ refl (ap (told 0) (made .fresh .ensures)) (c .before .before .keep .ensures)) in this.Tie.close met

@@ -4,18 +4,12 @@ use mathlib.Core.Path.{sym, _∙_}
 use Rattle.limits.specs.Answers.{told}
 use Rattle.sambighjone.specs.Calls.{wrong-length}
 use Rattle.sambighjone.proofs.Laws.{kept-done, kept-refused}
-use Rattle.sambighjone.proofs.kept.keep.Statement.{statement}
-use Rattle.sambighjone.proofs.kept.keep.Tie as tie
+use Rattle.sambighjone.proofs.kept.keep as this
 
-returns : tie.Need-returns
-returns c =
-    let packed = c .before .before .before .before .pack .ensures in
-    (λ j. told (c .number .ensures j) (packed .1 j)) ∙ kept-done _ _ _ (sym (packed .0) ∙ c .before .if1 .taken)
-
-returns-2 : tie.Need-returns-2
-returns-2 c =
-    let packed = c .before .before .before .pack .ensures in
-    (λ j. told wrong-length (packed .1 j)) ∙ kept-refused _ _ _ (sym (packed .0) ∙ c .if1 .left)
-
-pub keep-spec : {M : Type 1} → statement M
-keep-spec = tie.close (tie.spec (λ c κs. search needs) (λ c κs. search needs) (λ c. search needs) returns (λ c. search needs) returns-2)
+pub keep-spec : {M : Type 1} → this.Statement.statement M
+keep-spec = let met = this.Tie.spec
+    (λ c. search needs) (λ c. search needs) (λ c. search needs)
+    (λ c. let packed = c .before .before .before .before .pack .ensures in
+    (λ j. told (c .number .ensures j) (packed .1 j)) ∙ kept-done _ _ _ (sym (packed .0) ∙ c .before .if1 .taken)) (λ c. search needs)
+    (λ c. let packed = c .before .before .before .pack .ensures in
+    (λ j. told wrong-length (packed .1 j)) ∙ kept-refused _ _ _ (sym (packed .0) ∙ c .if1 .left)) in this.Tie.close met

@@ -2,14 +2,9 @@
 use borrow.Author.Needs.{needs}
 use borrow.Author.Tests.{eq-eqb, ne-eqb}
 use Rattle.sambighjone.proofs.Laws.{given-done, given-refused}
-use Rattle.sambighjone.proofs.put.put_three.Statement.{statement}
-use Rattle.sambighjone.proofs.put.put_three.Tie as tie
+use Rattle.sambighjone.proofs.put.put_three as this
 
-returns : tie.Need-returns
-returns c = given-refused _ _ (ne-eqb _ _ (c .if1 .taken))
-
-returns-2 : tie.Need-returns-2
-returns-2 c = given-done _ _ (eq-eqb _ _ (c .if1 .left))
-
-pub put-three-spec : {M : Type 1} → statement M
-put-three-spec = tie.close (tie.spec returns (λ c. search needs) (λ c. search needs) (λ c. search needs) (λ c. search needs) returns-2)
+pub put-three-spec : {M : Type 1} → this.Statement.statement M
+put-three-spec = let met = this.Tie.spec
+    (λ c. given-refused _ _ (ne-eqb _ _ (c .if1 .taken))) (λ c. search needs) (λ c. search needs) (λ c. search needs) (λ c. search needs)
+    (λ c. given-done _ _ (eq-eqb _ _ (c .if1 .left))) in this.Tie.close met

@@ -3,19 +3,12 @@ use borrow.Author.Needs.{needs}
 use borrow.Author.Tests.{lt-ltb, le-ltb}
 use Rattle.sambighjone.specs.Calls.{switched}
 use Rattle.sambighjone.proofs.Laws.{fed-done}
-use Rattle.sambighjone.proofs.set.sambighjone_set_rest_bias_est_enabled.Statement.{statement}
-use Rattle.sambighjone.proofs.set.sambighjone_set_rest_bias_est_enabled.Tie as tie
+use Rattle.sambighjone.proofs.set.sambighjone_set_rest_bias_est_enabled as this
 
-returns : tie.Need-returns
+pub sambighjone-set-rest-bias-est-enabled-spec : {M : Type 1} → this.Statement.statement M
 unfolding switched
-returns c = simp (lt-ltb _ _ (c .if1 .taken))
-
-returns-2 : tie.Need-returns-2
-unfolding switched
-returns-2 c =
-    let called = c .before .before .before .before in
+sambighjone-set-rest-bias-est-enabled-spec = let met = this.Tie.spec
+    (λ c. simp (lt-ltb _ _ (c .if1 .taken))) (λ c. search needs) (λ c. search needs) (λ c. search needs) (λ c. search needs)
+    (λ c. let called = c .before .before .before .before in
     simp (le-ltb _ _ (called .before .before .before .if1 .left))
-    (fed-done _ _ (called .before .unpack .result) (called .set-rest-bias-est-enabled .result) _ (called .before .unpack .ensures) (called .set-rest-bias-est-enabled .ensures) (c .before .before .keep .ensures))
-
-pub sambighjone-set-rest-bias-est-enabled-spec : {M : Type 1} → statement M
-sambighjone-set-rest-bias-est-enabled-spec = tie.close (tie.spec returns (λ c κs. search needs) (λ c κs. search needs) (λ c κs. search needs) (λ c. search needs) returns-2)
+    (fed-done _ _ (called .before .unpack .result) (called .set-rest-bias-est-enabled .result) _ (called .before .unpack .ensures) (called .set-rest-bias-est-enabled .ensures) (c .before .before .keep .ensures))) in this.Tie.close met

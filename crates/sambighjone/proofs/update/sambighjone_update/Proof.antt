@@ -3,30 +3,9 @@ use mathlib.Core.Path.{sym, _∙_}
 use borrow.Author.Needs.{needs}
 use borrow.Author.Tests.{eq-eqb, ne-eqb, not-true, not-false}
 use Rattle.sambighjone.proofs.Laws.{two-sampled, updated-done, updated-refused}
-use Rattle.sambighjone.proofs.update.sambighjone_update.Statement.{statement}
-use Rattle.sambighjone.proofs.update.sambighjone_update.Tie as tie
+use Rattle.sambighjone.proofs.update.sambighjone_update as this
 
-returns : tie.Need-returns
-returns c = updated-refused _ _ _ (simp (ne-eqb _ _ (c .if1 .taken)))
-
-returns-2 : tie.Need-returns-2
-returns-2 c = updated-refused _ _ _ (simp (eq-eqb _ _ (c .before .if1 .left), ne-eqb _ _ (c .if2 .taken)))
-
-returns-3 : tie.Need-returns-3
-returns-3 c =
-    let asked = c .before in
-    let room = asked .before in
-    updated-refused _ _ _
-    (simp (eq-eqb _ _ (room .before .if1 .left), eq-eqb _ _ (room .if2 .left), sym (asked .sampled .ensures) ∙ not-true (asked .sampled .result) (c .if3 .taken)))
-
-stepped-requires : tie.Need-stepped-requires
-stepped-requires c κs =
-    let enough = c .before in
-    let asked = enough .before in
-    let start = asked .before .before .before .before .before .before in
-    two-sampled (start .args .samples .now) (sym (asked .sampled .ensures) ∙ not-false (asked .sampled .result) (enough .if3 .left))
-
-returns-4 : tie.Need-returns-4
+returns-4 : this.Tie.Need-returns-4
 returns-4 c =
     let kept = c .before .before in
     let summed = kept .before in
@@ -39,8 +18,16 @@ returns-4 c =
     (eq-eqb _ _ (room .before .if1 .left)) (eq-eqb _ _ (room .if2 .left)) (sym (asked .sampled .ensures) ∙ not-false (asked .sampled .result) (enough .if3 .left))
     (steps .stepped .ensures) (summed .summed-up .ensures) (put .put-answers .ensures) (kept .keep .ensures)
 
-pub sambighjone-update-spec : {M : Type 1} → statement M
-sambighjone-update-spec =
-    tie.close
-    (tie.spec returns returns-2 (λ c κs. search needs) returns-3 stepped-requires (λ c κs. search needs) (λ c κs. search needs) (λ c κs. search needs)
-    (λ c. search needs) (λ c. search needs) returns-4)
+pub sambighjone-update-spec : {M : Type 1} → this.Statement.statement M
+sambighjone-update-spec = let met = this.Tie.spec
+    (λ c. updated-refused _ _ _ (simp (ne-eqb _ _ (c .if1 .taken))))
+    (λ c. updated-refused _ _ _ (simp (eq-eqb _ _ (c .before .if1 .left), ne-eqb _ _ (c .if2 .taken)))) (λ c. search needs)
+    (λ c. let asked = c .before in
+    let room = asked .before in
+    updated-refused _ _ _
+    (simp (eq-eqb _ _ (room .before .if1 .left), eq-eqb _ _ (room .if2 .left), sym (asked .sampled .ensures) ∙ not-true (asked .sampled .result) (c .if3 .taken))))
+    (λ c κs. let enough = c .before in
+    let asked = enough .before in
+    let start = asked .before .before .before .before .before .before in
+    two-sampled (start .args .samples .now) (sym (asked .sampled .ensures) ∙ not-false (asked .sampled .result) (enough .if3 .left)))
+    (λ c. search needs) (λ c. search needs) (λ c. search needs) (λ c. search needs) (λ c. search needs) returns-4 in this.Tie.close met

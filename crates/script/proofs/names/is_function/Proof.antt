@@ -1,12 +1,8 @@
 -- The code is the definition, name by name.
 use mathlib.Core.Path.{refl}
 use Rattle.script.specs.Names.{is-function}
-use Rattle.script.proofs.names.is_function.Statement.{statement}
-use Rattle.script.proofs.names.is_function.Tie as tie
+use Rattle.script.proofs.names.is_function as this
 
-returns : tie.Need-returns
+pub is-function-spec : {M : Type 1} → this.Statement.statement M
 unfolding is-function
-returns c = refl
-
-pub is-function-spec : {M : Type 1} → statement M
-is-function-spec = tie.close (tie.spec returns)
+is-function-spec = let met = this.Tie.spec (λ c. refl) in this.Tie.close met

@@ -1,12 +1,8 @@
 -- The code is the definition, name by name.
 use mathlib.Core.Path.{refl}
 use Rattle.script.specs.Names.{is-switch}
-use Rattle.script.proofs.names.is_switch.Statement.{statement}
-use Rattle.script.proofs.names.is_switch.Tie as tie
+use Rattle.script.proofs.names.is_switch as this
 
-returns : tie.Need-returns
+pub is-switch-spec : {M : Type 1} → this.Statement.statement M
 unfolding is-switch
-returns c = refl
-
-pub is-switch-spec : {M : Type 1} → statement M
-is-switch-spec = tie.close (tie.spec returns)
+is-switch-spec = let met = this.Tie.spec (λ c. refl) in this.Tie.close met

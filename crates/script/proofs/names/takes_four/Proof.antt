@@ -1,12 +1,8 @@
 -- The code is the definition, name by name.
 use mathlib.Core.Path.{refl}
 use Rattle.script.specs.Names.{takes-four}
-use Rattle.script.proofs.names.takes_four.Statement.{statement}
-use Rattle.script.proofs.names.takes_four.Tie as tie
+use Rattle.script.proofs.names.takes_four as this
 
-returns : tie.Need-returns
+pub takes-four-spec : {M : Type 1} → this.Statement.statement M
 unfolding takes-four
-returns c = refl
-
-pub takes-four-spec : {M : Type 1} → statement M
-takes-four-spec = tie.close (tie.spec returns)
+takes-four-spec = let met = this.Tie.spec (λ c. refl) in this.Tie.close met

@@ -1,12 +1,8 @@
 -- The code is the definition, name by name.
 use mathlib.Core.Path.{refl}
 use Rattle.script.specs.Names.{takes-none}
-use Rattle.script.proofs.names.takes_none.Statement.{statement}
-use Rattle.script.proofs.names.takes_none.Tie as tie
+use Rattle.script.proofs.names.takes_none as this
 
-returns : tie.Need-returns
+pub takes-none-spec : {M : Type 1} → this.Statement.statement M
 unfolding takes-none
-returns c = refl
-
-pub takes-none-spec : {M : Type 1} → statement M
-takes-none-spec = tie.close (tie.spec returns)
+takes-none-spec = let met = this.Tie.spec (λ c. refl) in this.Tie.close met

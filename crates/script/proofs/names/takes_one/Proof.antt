@@ -1,18 +1,9 @@
 -- The definition, by what each call gives.
 use Rattle.script.specs.Names.{takes-one}
-use borrow.Author.Needs.{needs}
-use Rattle.script.proofs.names.takes_one.Statement.{statement}
-use Rattle.script.proofs.names.takes_one.Tie as tie
+use Rattle.script.proofs.names.takes_one as this
 
-is-switch-requires : tie.Need-is-switch-requires
-is-switch-requires c κs = search needs
-
-is-function-requires : tie.Need-is-function-requires
-is-function-requires c κs = search needs
-
-returns : tie.Need-returns
+pub takes-one-spec : {M : Type 1} → this.Statement.statement M
 unfolding takes-one
-returns c = simp (c .is-function .ensures, c .before .is-switch .ensures)
-
-pub takes-one-spec : {M : Type 1} → statement M
-takes-one-spec = tie.close (tie.spec is-switch-requires is-function-requires returns)
+takes-one-spec = let met = this.Tie.spec
+    (λ c κs. tt) (λ c κs. tt)
+    (λ c. simp (c .is-function .ensures, c .before .is-switch .ensures)) in this.Tie.close met

@@ -1,12 +1,8 @@
 -- The code is the definition, name by name.
 use mathlib.Core.Path.{refl}
 use Rattle.script.specs.Names.{takes-three}
-use Rattle.script.proofs.names.takes_three.Statement.{statement}
-use Rattle.script.proofs.names.takes_three.Tie as tie
+use Rattle.script.proofs.names.takes_three as this
 
-returns : tie.Need-returns
+pub takes-three-spec : {M : Type 1} → this.Statement.statement M
 unfolding takes-three
-returns c = refl
-
-pub takes-three-spec : {M : Type 1} → statement M
-takes-three-spec = tie.close (tie.spec returns)
+takes-three-spec = let met = this.Tie.spec (λ c. refl) in this.Tie.close met

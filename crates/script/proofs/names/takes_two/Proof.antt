@@ -1,12 +1,8 @@
 -- The code is the definition, name by name.
 use mathlib.Core.Path.{refl}
 use Rattle.script.specs.Names.{takes-two}
-use Rattle.script.proofs.names.takes_two.Statement.{statement}
-use Rattle.script.proofs.names.takes_two.Tie as tie
+use Rattle.script.proofs.names.takes_two as this
 
-returns : tie.Need-returns
+pub takes-two-spec : {M : Type 1} → this.Statement.statement M
 unfolding takes-two
-returns c = refl
-
-pub takes-two-spec : {M : Type 1} → statement M
-takes-two-spec = tie.close (tie.spec returns)
+takes-two-spec = let met = this.Tie.spec (λ c. refl) in this.Tie.close met

@@ -2,59 +2,10 @@
 use mathlib.Core.Path.{refl}
 use Rattle.script.specs.Requests.{magnetic-params}
 use borrow.Author.Needs.{needs}
-use Rattle.script.proofs.request.magnetic_params.Statement.{statement}
-use Rattle.script.proofs.request.magnetic_params.Tie as tie
+use Rattle.script.proofs.request.magnetic_params as this
 
-array-read-t5 : tie.Need-array-read-t5
-array-read-t5 c = search needs
-
-array-read-t8 : tie.Need-array-read-t8
-array-read-t8 c = search needs
-
-array-read-t11 : tie.Need-array-read-t11
-array-read-t11 c = search needs
-
-array-read-t14 : tie.Need-array-read-t14
-array-read-t14 c = search needs
-
-array-read-t17 : tie.Need-array-read-t17
-array-read-t17 c = search needs
-
-array-read-t20 : tie.Need-array-read-t20
-array-read-t20 c = search needs
-
-array-read-t23 : tie.Need-array-read-t23
-array-read-t23 c = search needs
-
-array-read-t26 : tie.Need-array-read-t26
-array-read-t26 c = search needs
-
-array-read-t29 : tie.Need-array-read-t29
-array-read-t29 c = search needs
-
-array-read-t32 : tie.Need-array-read-t32
-array-read-t32 c = search needs
-
-array-read-t35 : tie.Need-array-read-t35
-array-read-t35 c = search needs
-
-returns : tie.Need-returns
+pub magnetic-params-spec : {M : Type 1} → this.Statement.statement M
 unfolding magnetic-params
-returns c = refl
-
-pub magnetic-params-spec : {M : Type 1} → statement M
-magnetic-params-spec =
-    tie.close
-    (tie.spec
-    array-read-t5
-    array-read-t8
-    array-read-t11
-    array-read-t14
-    array-read-t17
-    array-read-t20
-    array-read-t23
-    array-read-t26
-    array-read-t29
-    array-read-t32
-    array-read-t35
-    returns)
+magnetic-params-spec = let met = this.Tie.spec
+    (λ c. search needs) (λ c. search needs) (λ c. search needs) (λ c. search needs) (λ c. search needs) (λ c. search needs)
+    (λ c. search needs) (λ c. search needs) (λ c. search needs) (λ c. search needs) (λ c. search needs) (λ c. refl) in this.Tie.close met

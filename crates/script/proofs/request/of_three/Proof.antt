@@ -1,20 +1,11 @@
 -- Each branch is the definition's, by the tests that led to it.
 use borrow.Author.Tests.{eq-eqb, ne-eqb}
 use Rattle.script.specs.Requests.{of-three}
-use Rattle.script.proofs.request.of_three.Statement.{statement}
-use Rattle.script.proofs.request.of_three.Tie as tie
+use Rattle.script.proofs.request.of_three as this
 
-returns : tie.Need-returns
+pub of-three-spec : {M : Type 1} → this.Statement.statement M
 unfolding of-three
-returns c = simp (eq-eqb _ _ (c .if1 .taken))
-
-returns-2 : tie.Need-returns-2
-unfolding of-three
-returns-2 c = simp (eq-eqb _ _ (c .if2 .taken), ne-eqb _ _ (c .before .if1 .left))
-
-returns-3 : tie.Need-returns-3
-unfolding of-three
-returns-3 c = simp (ne-eqb _ _ (c .if2 .left), ne-eqb _ _ (c .before .if1 .left))
-
-pub of-three-spec : {M : Type 1} → statement M
-of-three-spec = tie.close (tie.spec returns returns-2 returns-3)
+of-three-spec = let met = this.Tie.spec
+    (λ c. simp (eq-eqb _ _ (c .if1 .taken)))
+    (λ c. simp (eq-eqb _ _ (c .if2 .taken), ne-eqb _ _ (c .before .if1 .left)))
+    (λ c. simp (ne-eqb _ _ (c .if2 .left), ne-eqb _ _ (c .before .if1 .left))) in this.Tie.close met

@@ -2,39 +2,13 @@
 use borrow.Author.Tests.{le-leb, le-ltb, lt-leb, lt-ltb}
 use Rattle.words.specs.Decimals.{digit}
 use borrow.Author.Needs.{needs}
-use Rattle.words.proofs.decimal.digit.Statement.{statement}
-use Rattle.words.proofs.decimal.digit.Tie as tie
+use Rattle.words.proofs.decimal.digit as this
 
-cast-result : tie.Need-cast-result
-cast-result c = search needs
-
-sub-result : tie.Need-sub-result
-sub-result c = search needs
-
-cast-result-2 : tie.Need-cast-result-2
-cast-result-2 c = search needs
-
-returns : tie.Need-returns
+pub digit-spec : {M : Type 1} → this.Statement.statement M
 unfolding digit
-returns c = simp (lt-ltb _ _ (c .if1 .taken))
-
-returns-2 : tie.Need-returns-2
-unfolding digit
-returns-2 c = simp (le-leb _ _ (c .if2 .taken), le-ltb _ _ (c .before .if1 .left))
-
-returns-3 : tie.Need-returns-3
-unfolding digit
-returns-3 c = simp (lt-ltb _ _ (c .if3 .taken), lt-leb _ _ (c .before .if2 .left), le-ltb _ _ (c .before .before .if1 .left))
-
-returns-4 : tie.Need-returns-4
-unfolding digit
-returns-4 c = simp (le-leb _ _ (c .if4 .taken), le-ltb _ _ (c .before .if3 .left), lt-leb _ _ (c .before .before .if2 .left), le-ltb _ _ (c .before .before .before .if1 .left))
-
-returns-5 : tie.Need-returns-5
-unfolding digit
-returns-5 c = simp (lt-leb _ _ (c .if4 .left), le-ltb _ _ (c .before .if3 .left), lt-leb _ _ (c .before .before .if2 .left), le-ltb _ _ (c .before .before .before .if1 .left))
-
-pub digit-spec : {M : Type 1} → statement M
-digit-spec =
-    tie.close
-    (tie.spec cast-result sub-result cast-result-2 returns returns-2 returns-3 returns-4 returns-5)
+digit-spec = let met = this.Tie.spec
+    (λ c. search needs) (λ c. search needs) (λ c. search needs) (λ c. simp (lt-ltb _ _ (c .if1 .taken)))
+    (λ c. simp (le-leb _ _ (c .if2 .taken), le-ltb _ _ (c .before .if1 .left)))
+    (λ c. simp (lt-ltb _ _ (c .if3 .taken), lt-leb _ _ (c .before .if2 .left), le-ltb _ _ (c .before .before .if1 .left)))
+    (λ c. simp (le-leb _ _ (c .if4 .taken), le-ltb _ _ (c .before .if3 .left), lt-leb _ _ (c .before .before .if2 .left), le-ltb _ _ (c .before .before .before .if1 .left)))
+    (λ c. simp (lt-leb _ _ (c .if4 .left), le-ltb _ _ (c .before .if3 .left), lt-leb _ _ (c .before .before .if2 .left), le-ltb _ _ (c .before .before .before .if1 .left))) in this.Tie.close met

@@ -1,12 +1,8 @@
 -- The code is the definition, operation by operation.
 use mathlib.Core.Path.{refl}
 use Rattle.algebra.specs.Matrices.{adjugate}
-use Rattle.algebra.proofs.matrix.Matrix.adjugate.Statement.{statement}
-use Rattle.algebra.proofs.matrix.Matrix.adjugate.Tie as tie
+use Rattle.algebra.proofs.matrix.Matrix.adjugate as this
 
-returns : tie.Need-returns
+pub adjugate-spec : {M : Type 1} → this.Statement.statement M
 unfolding adjugate
-returns c = refl
-
-pub adjugate-spec : {M : Type 1} → statement M
-adjugate-spec = tie.close (tie.spec returns)
+adjugate-spec = let met = this.Tie.spec (λ c. refl) in this.Tie.close met

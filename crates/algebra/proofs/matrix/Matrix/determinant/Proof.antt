@@ -1,12 +1,8 @@
 -- The code is the definition, operation by operation.
 use mathlib.Core.Path.{refl}
 use Rattle.algebra.specs.Matrices.{determinant}
-use Rattle.algebra.proofs.matrix.Matrix.determinant.Statement.{statement}
-use Rattle.algebra.proofs.matrix.Matrix.determinant.Tie as tie
+use Rattle.algebra.proofs.matrix.Matrix.determinant as this
 
-returns : tie.Need-returns
+pub determinant-spec : {M : Type 1} → this.Statement.statement M
 unfolding determinant
-returns c = refl
-
-pub determinant-spec : {M : Type 1} → statement M
-determinant-spec = tie.close (tie.spec returns)
+determinant-spec = let met = this.Tie.spec (λ c. refl) in this.Tie.close met

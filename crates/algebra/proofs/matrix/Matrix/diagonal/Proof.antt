@@ -1,12 +1,8 @@
 -- The code is the definition, operation by operation.
 use mathlib.Core.Path.{refl}
 use Rattle.algebra.specs.Matrices.{diagonal}
-use Rattle.algebra.proofs.matrix.Matrix.diagonal.Statement.{statement}
-use Rattle.algebra.proofs.matrix.Matrix.diagonal.Tie as tie
+use Rattle.algebra.proofs.matrix.Matrix.diagonal as this
 
-returns : tie.Need-returns
+pub diagonal-spec : {M : Type 1} → this.Statement.statement M
 unfolding diagonal
-returns c = refl
-
-pub diagonal-spec : {M : Type 1} → statement M
-diagonal-spec = tie.close (tie.spec returns)
+diagonal-spec = let met = this.Tie.spec (λ c. refl) in this.Tie.close met

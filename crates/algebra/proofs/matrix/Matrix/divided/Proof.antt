@@ -1,12 +1,8 @@
 -- The code is the definition, operation by operation.
 use mathlib.Core.Path.{refl}
 use Rattle.algebra.specs.Matrices.{divided}
-use Rattle.algebra.proofs.matrix.Matrix.divided.Statement.{statement}
-use Rattle.algebra.proofs.matrix.Matrix.divided.Tie as tie
+use Rattle.algebra.proofs.matrix.Matrix.divided as this
 
-returns : tie.Need-returns
+pub divided-spec : {M : Type 1} → this.Statement.statement M
 unfolding divided
-returns c = refl
-
-pub divided-spec : {M : Type 1} → statement M
-divided-spec = tie.close (tie.spec returns)
+divided-spec = let met = this.Tie.spec (λ c. refl) in this.Tie.close met

@@ -1,12 +1,8 @@
 -- The code is the definition, operation by operation.
 use mathlib.Core.Path.{refl}
 use Rattle.algebra.specs.Matrices.{flatten}
-use Rattle.algebra.proofs.matrix.Matrix.flatten.Statement.{statement}
-use Rattle.algebra.proofs.matrix.Matrix.flatten.Tie as tie
+use Rattle.algebra.proofs.matrix.Matrix.flatten as this
 
-returns : tie.Need-returns
+pub flatten-spec : {M : Type 1} → this.Statement.statement M
 unfolding flatten
-returns c = refl
-
-pub flatten-spec : {M : Type 1} → statement M
-flatten-spec = tie.close (tie.spec returns)
+flatten-spec = let met = this.Tie.spec (λ c. refl) in this.Tie.close met

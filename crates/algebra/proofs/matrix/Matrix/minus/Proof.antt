@@ -1,12 +1,8 @@
 -- The code is the definition, operation by operation.
 use mathlib.Core.Path.{refl}
 use Rattle.algebra.specs.Matrices.{minus}
-use Rattle.algebra.proofs.matrix.Matrix.minus.Statement.{statement}
-use Rattle.algebra.proofs.matrix.Matrix.minus.Tie as tie
+use Rattle.algebra.proofs.matrix.Matrix.minus as this
 
-returns : tie.Need-returns
+pub minus-spec : {M : Type 1} → this.Statement.statement M
 unfolding minus
-returns c = refl
-
-pub minus-spec : {M : Type 1} → statement M
-minus-spec = tie.close (tie.spec returns)
+minus-spec = let met = this.Tie.spec (λ c. refl) in this.Tie.close met

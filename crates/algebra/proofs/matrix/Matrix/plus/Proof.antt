@@ -1,12 +1,8 @@
 -- The code is the definition, operation by operation.
 use mathlib.Core.Path.{refl}
 use Rattle.algebra.specs.Matrices.{plus}
-use Rattle.algebra.proofs.matrix.Matrix.plus.Statement.{statement}
-use Rattle.algebra.proofs.matrix.Matrix.plus.Tie as tie
+use Rattle.algebra.proofs.matrix.Matrix.plus as this
 
-returns : tie.Need-returns
+pub plus-spec : {M : Type 1} → this.Statement.statement M
 unfolding plus
-returns c = refl
-
-pub plus-spec : {M : Type 1} → statement M
-plus-spec = tie.close (tie.spec returns)
+plus-spec = let met = this.Tie.spec (λ c. refl) in this.Tie.close met

@@ -1,12 +1,8 @@
 -- The code is the definition, operation by operation.
 use mathlib.Core.Path.{refl}
 use Rattle.algebra.specs.Matrices.{transpose}
-use Rattle.algebra.proofs.matrix.Matrix.transpose.Statement.{statement}
-use Rattle.algebra.proofs.matrix.Matrix.transpose.Tie as tie
+use Rattle.algebra.proofs.matrix.Matrix.transpose as this
 
-returns : tie.Need-returns
+pub transpose-spec : {M : Type 1} → this.Statement.statement M
 unfolding transpose
-returns c = refl
-
-pub transpose-spec : {M : Type 1} → statement M
-transpose-spec = tie.close (tie.spec returns)
+transpose-spec = let met = this.Tie.spec (λ c. refl) in this.Tie.close met

@@ -2,51 +2,10 @@
 use mathlib.Core.Path.{refl}
 use Rattle.algebra.specs.Matrices.{unflatten}
 use borrow.Author.Needs.{needs}
-use Rattle.algebra.proofs.matrix.Matrix.unflatten.Statement.{statement}
-use Rattle.algebra.proofs.matrix.Matrix.unflatten.Tie as tie
+use Rattle.algebra.proofs.matrix.Matrix.unflatten as this
 
-array-read-t5 : tie.Need-array-read-t5
-array-read-t5 c = search needs
-
-array-read-t8 : tie.Need-array-read-t8
-array-read-t8 c = search needs
-
-array-read-t11 : tie.Need-array-read-t11
-array-read-t11 c = search needs
-
-array-read-t14 : tie.Need-array-read-t14
-array-read-t14 c = search needs
-
-array-read-t17 : tie.Need-array-read-t17
-array-read-t17 c = search needs
-
-array-read-t20 : tie.Need-array-read-t20
-array-read-t20 c = search needs
-
-array-read-t23 : tie.Need-array-read-t23
-array-read-t23 c = search needs
-
-array-read-t26 : tie.Need-array-read-t26
-array-read-t26 c = search needs
-
-array-read-t29 : tie.Need-array-read-t29
-array-read-t29 c = search needs
-
-returns : tie.Need-returns
+pub unflatten-spec : {M : Type 1} → this.Statement.statement M
 unfolding unflatten
-returns c = refl
-
-pub unflatten-spec : {M : Type 1} → statement M
-unflatten-spec =
-    tie.close
-    (tie.spec
-    array-read-t5
-    array-read-t8
-    array-read-t11
-    array-read-t14
-    array-read-t17
-    array-read-t20
-    array-read-t23
-    array-read-t26
-    array-read-t29
-    returns)
+unflatten-spec = let met = this.Tie.spec
+    (λ c. search needs) (λ c. search needs) (λ c. search needs) (λ c. search needs) (λ c. search needs) (λ c. search needs)
+    (λ c. search needs) (λ c. search needs) (λ c. search needs) (λ c. refl) in this.Tie.close met

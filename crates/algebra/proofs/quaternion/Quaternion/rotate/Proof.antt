@@ -1,12 +1,8 @@
 -- The code is the definition, operation by operation.
 use mathlib.Core.Path.{refl}
 use Rattle.algebra.specs.Quaternions.{rotate}
-use Rattle.algebra.proofs.quaternion.Quaternion.rotate.Statement.{statement}
-use Rattle.algebra.proofs.quaternion.Quaternion.rotate.Tie as tie
+use Rattle.algebra.proofs.quaternion.Quaternion.rotate as this
 
-returns : tie.Need-returns
+pub rotate-spec : {M : Type 1} → this.Statement.statement M
 unfolding rotate
-returns c = refl
-
-pub rotate-spec : {M : Type 1} → statement M
-rotate-spec = tie.close (tie.spec returns)
+rotate-spec = let met = this.Tie.spec (λ c. refl) in this.Tie.close met

@@ -1,12 +1,8 @@
 -- The code is the definition, operation by operation.
 use mathlib.Core.Path.{refl}
 use Rattle.algebra.specs.Quaternions.{times}
-use Rattle.algebra.proofs.quaternion.Quaternion.times.Statement.{statement}
-use Rattle.algebra.proofs.quaternion.Quaternion.times.Tie as tie
+use Rattle.algebra.proofs.quaternion.Quaternion.times as this
 
-returns : tie.Need-returns
+pub times-spec : {M : Type 1} → this.Statement.statement M
 unfolding times
-returns c = refl
-
-pub times-spec : {M : Type 1} → statement M
-times-spec = tie.close (tie.spec returns)
+times-spec = let met = this.Tie.spec (λ c. refl) in this.Tie.close met

@@ -1,12 +1,8 @@
 -- The code is the definition, operation by operation.
 use mathlib.Core.Path.{refl}
 use Rattle.inertial.specs.Setup.{house}
-use Rattle.inertial.proofs.types.InertialParams.house.Statement.{statement}
-use Rattle.inertial.proofs.types.InertialParams.house.Tie as tie
+use Rattle.inertial.proofs.types.InertialParams.house as this
 
-returns : tie.Need-returns
+pub house-spec : {M : Type 1} → this.Statement.statement M
 unfolding house
-returns c = refl
-
-pub house-spec : {M : Type 1} → statement M
-house-spec = tie.close (tie.spec returns)
+house-spec = let met = this.Tie.spec (λ c. refl) in this.Tie.close met

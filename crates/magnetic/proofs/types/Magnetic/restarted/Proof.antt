@@ -1,15 +1,7 @@
 -- The definition, by what each call gives.
 use Rattle.magnetic.specs.Setters.{restarted}
-use borrow.Author.Needs.{needs}
-use Rattle.magnetic.proofs.types.Magnetic.restarted.Statement.{statement}
-use Rattle.magnetic.proofs.types.Magnetic.restarted.Tie as tie
+use Rattle.magnetic.proofs.types.Magnetic.restarted as this
 
-restarted-field-requires : tie.Need-restarted-field-requires
-restarted-field-requires c κs = search needs
-
-returns : tie.Need-returns
+pub restarted-spec : {M : Type 1} → this.Statement.statement M
 unfolding restarted
-returns c = simp (c .before .restarted-field .ensures)
-
-pub restarted-spec : {M : Type 1} → statement M
-restarted-spec = tie.close (tie.spec restarted-field-requires returns)
+restarted-spec = let met = this.Tie.spec (λ c κs. tt) (λ c. simp (c .before .restarted-field .ensures)) in this.Tie.close met

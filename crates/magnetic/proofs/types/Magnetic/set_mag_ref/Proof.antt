@@ -1,23 +1,10 @@
 -- The definition, by what each call gives and the tests that led here.
 use Rattle.magnetic.specs.Setters.{set-mag-ref}
-use borrow.Author.Needs.{needs}
-use Rattle.magnetic.proofs.types.Magnetic.set_mag_ref.Statement.{statement}
-use Rattle.magnetic.proofs.types.Magnetic.set_mag_ref.Tie as tie
+use Rattle.magnetic.proofs.types.Magnetic.set_mag_ref as this
 
-ref-norm-taken-requires : tie.Need-ref-norm-taken-requires
-ref-norm-taken-requires c κs = search needs
-
-ref-dip-taken-requires : tie.Need-ref-dip-taken-requires
-ref-dip-taken-requires c κs = search needs
-
-returns : tie.Need-returns
+pub set-mag-ref-spec : {M : Type 1} → this.Statement.statement M
 unfolding set-mag-ref
-returns c = simp (simp (c .before .before .before .ref-dip-taken .ensures, c .before .before .before .before .ref-norm-taken .ensures) at (c .before .before .if1 .taken), c .before .before .before .ref-dip-taken .ensures, c .before .before .before .before .ref-norm-taken .ensures)
-
-returns-2 : tie.Need-returns-2
-unfolding set-mag-ref
-returns-2 c = simp (simp (c .before .ref-dip-taken .ensures, c .before .before .ref-norm-taken .ensures) at (c .if1 .left), c .before .ref-dip-taken .ensures, c .before .before .ref-norm-taken .ensures)
-
-pub set-mag-ref-spec : {M : Type 1} → statement M
-set-mag-ref-spec =
-    tie.close (tie.spec ref-norm-taken-requires ref-dip-taken-requires returns returns-2)
+set-mag-ref-spec = let met = this.Tie.spec
+    (λ c κs. tt) (λ c κs. tt)
+    (λ c. simp (← c .before .before .before .ref-dip-taken .ensures, ← c .before .before .before .before .ref-norm-taken .ensures, c .before .before .if1 .taken))
+    (λ c. simp (← c .before .ref-dip-taken .ensures, ← c .before .before .ref-norm-taken .ensures, c .if1 .left)) in this.Tie.close met

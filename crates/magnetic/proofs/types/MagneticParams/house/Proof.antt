@@ -1,12 +1,8 @@
 -- The code is the definition, operation by operation.
 use mathlib.Core.Path.{refl}
 use Rattle.magnetic.specs.Setup.{house}
-use Rattle.magnetic.proofs.types.MagneticParams.house.Statement.{statement}
-use Rattle.magnetic.proofs.types.MagneticParams.house.Tie as tie
+use Rattle.magnetic.proofs.types.MagneticParams.house as this
 
-returns : tie.Need-returns
+pub house-spec : {M : Type 1} → this.Statement.statement M
 unfolding house
-returns c = refl
-
-pub house-spec : {M : Type 1} → statement M
-house-spec = tie.close (tie.spec returns)
+house-spec = let met = this.Tie.spec (λ c. refl) in this.Tie.close met

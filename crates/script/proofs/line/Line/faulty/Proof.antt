@@ -1,12 +1,8 @@
 -- The code is the definition, field by field.
 use mathlib.Core.Path.{refl}
 use Rattle.script.specs.Lines.{faulty}
-use Rattle.script.proofs.line.Line.faulty.Statement.{statement}
-use Rattle.script.proofs.line.Line.faulty.Tie as tie
+use Rattle.script.proofs.line.Line.faulty as this
 
-returns : tie.Need-returns
+pub faulty-spec : {M : Type 1} → this.Statement.statement M
 unfolding faulty
-returns c = refl
-
-pub faulty-spec : {M : Type 1} → statement M
-faulty-spec = tie.close (tie.spec returns)
+faulty-spec = let met = this.Tie.spec (λ c. refl) in this.Tie.close met

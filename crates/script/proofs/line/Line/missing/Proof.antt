@@ -1,15 +1,7 @@
 -- The definition, by what each call gives.
 use Rattle.script.specs.Lines.{missing}
-use borrow.Author.Needs.{needs}
-use Rattle.script.proofs.line.Line.missing.Statement.{statement}
-use Rattle.script.proofs.line.Line.missing.Tie as tie
+use Rattle.script.proofs.line.Line.missing as this
 
-position-requires : tie.Need-position-requires
-position-requires c κs = search needs
-
-returns : tie.Need-returns
+pub missing-spec : {M : Type 1} → this.Statement.statement M
 unfolding missing
-returns c = simp (c .position .ensures)
-
-pub missing-spec : {M : Type 1} → statement M
-missing-spec = tie.close (tie.spec position-requires returns)
+missing-spec = let met = this.Tie.spec (λ c κs. tt) (λ c. simp (c .position .ensures)) in this.Tie.close met

@@ -2,18 +2,8 @@
 use mathlib.Core.Path.{refl}
 use Rattle.script.specs.Lines.{with-dash}
 use borrow.Author.Needs.{needs}
-use Rattle.script.proofs.line.Line.with_dash.Statement.{statement}
-use Rattle.script.proofs.line.Line.with_dash.Tie as tie
+use Rattle.script.proofs.line.Line.with_dash as this
 
-array-write-absent : tie.Need-array-write-absent
-array-write-absent c = search needs
-
-add-next : tie.Need-add-next
-add-next c = search needs
-
-returns : tie.Need-returns
+pub with-dash-spec : {M : Type 1} → this.Statement.statement M
 unfolding with-dash
-returns c = refl
-
-pub with-dash-spec : {M : Type 1} → statement M
-with-dash-spec = tie.close (tie.spec array-write-absent add-next returns)
+with-dash-spec = let met = this.Tie.spec (λ c. search needs) (λ c. search needs) (λ c. refl) in this.Tie.close met

@@ -2,15 +2,8 @@
 use mathlib.Core.Path.{refl}
 use Rattle.script.specs.Lines.{with-house}
 use borrow.Author.Needs.{needs}
-use Rattle.script.proofs.line.Line.with_house.Statement.{statement}
-use Rattle.script.proofs.line.Line.with_house.Tie as tie
+use Rattle.script.proofs.line.Line.with_house as this
 
-add-next : tie.Need-add-next
-add-next c = search needs
-
-returns : tie.Need-returns
+pub with-house-spec : {M : Type 1} → this.Statement.statement M
 unfolding with-house
-returns c = refl
-
-pub with-house-spec : {M : Type 1} → statement M
-with-house-spec = tie.close (tie.spec add-next returns)
+with-house-spec = let met = this.Tie.spec (λ c. search needs) (λ c. refl) in this.Tie.close met

@@ -1,12 +1,8 @@
 -- The code is the definition, field by field.
 use mathlib.Core.Path.{refl}
 use Rattle.script.specs.Lines.{with-name}
-use Rattle.script.proofs.line.Line.with_name.Statement.{statement}
-use Rattle.script.proofs.line.Line.with_name.Tie as tie
+use Rattle.script.proofs.line.Line.with_name as this
 
-returns : tie.Need-returns
+pub with-name-spec : {M : Type 1} → this.Statement.statement M
 unfolding with-name
-returns c = refl
-
-pub with-name-spec : {M : Type 1} → statement M
-with-name-spec = tie.close (tie.spec returns)
+with-name-spec = let met = this.Tie.spec (λ c. refl) in this.Tie.close met

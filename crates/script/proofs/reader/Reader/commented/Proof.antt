@@ -1,15 +1,7 @@
 -- The definition, by what each call gives.
 use Rattle.script.specs.Readers.{commented}
-use borrow.Author.Needs.{needs}
-use Rattle.script.proofs.reader.Reader.commented.Statement.{statement}
-use Rattle.script.proofs.reader.Reader.commented.Tie as tie
+use Rattle.script.proofs.reader.Reader.commented as this
 
-parted-requires : tie.Need-parted-requires
-parted-requires c κs = search needs
-
-returns : tie.Need-returns
+pub commented-spec : {M : Type 1} → this.Statement.statement M
 unfolding commented
-returns c = simp (c .parted .ensures)
-
-pub commented-spec : {M : Type 1} → statement M
-commented-spec = tie.close (tie.spec parted-requires returns)
+commented-spec = let met = this.Tie.spec (λ c κs. tt) (λ c. simp (c .parted .ensures)) in this.Tie.close met

@@ -1,15 +1,7 @@
 -- The definition, by what each call gives.
 use Rattle.script.specs.Readers.{ended}
-use borrow.Author.Needs.{needs}
-use Rattle.script.proofs.reader.Reader.ended.Statement.{statement}
-use Rattle.script.proofs.reader.Reader.ended.Tie as tie
+use Rattle.script.proofs.reader.Reader.ended as this
 
-parted-requires : tie.Need-parted-requires
-parted-requires c κs = search needs
-
-returns : tie.Need-returns
+pub ended-spec : {M : Type 1} → this.Statement.statement M
 unfolding ended
-returns c = simp (c .parted .ensures)
-
-pub ended-spec : {M : Type 1} → statement M
-ended-spec = tie.close (tie.spec parted-requires returns)
+ended-spec = let met = this.Tie.spec (λ c κs. tt) (λ c. simp (c .parted .ensures)) in this.Tie.close met

@@ -1,15 +1,7 @@
 -- The definition, by what each call gives.
 use Rattle.script.specs.Readers.{with-letter}
-use borrow.Author.Needs.{needs}
-use Rattle.script.proofs.reader.Reader.with_letter.Statement.{statement}
-use Rattle.script.proofs.reader.Reader.with_letter.Tie as tie
+use Rattle.script.proofs.reader.Reader.with_letter as this
 
-with-requires : tie.Need-with-requires
-with-requires c κs = search needs
-
-returns : tie.Need-returns
+pub with-letter-spec : {M : Type 1} → this.Statement.statement M
 unfolding with-letter
-returns c = simp (c .with .ensures)
-
-pub with-letter-spec : {M : Type 1} → statement M
-with-letter-spec = tie.close (tie.spec with-requires returns)
+with-letter-spec = let met = this.Tie.spec (λ c κs. tt) (λ c. simp (c .with .ensures)) in this.Tie.close met

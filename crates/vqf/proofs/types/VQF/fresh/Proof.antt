@@ -1,18 +1,8 @@
 -- The definition, by what each call gives.
 use Rattle.vqf.specs.Build.{fresh}
-use borrow.Author.Needs.{needs}
-use Rattle.vqf.proofs.types.VQF.fresh.Statement.{statement}
-use Rattle.vqf.proofs.types.VQF.fresh.Tie as tie
+use Rattle.vqf.proofs.types.VQF.fresh as this
 
-house-requires : tie.Need-house-requires
-house-requires c κs = search needs
-
-built-requires : tie.Need-built-requires
-built-requires c κs = search needs
-
-returns : tie.Need-returns
+pub fresh-spec : {M : Type 1} → this.Statement.statement M
 unfolding fresh
-returns c = simp (c .built .ensures, c .before .house .ensures)
-
-pub fresh-spec : {M : Type 1} → statement M
-fresh-spec = tie.close (tie.spec house-requires built-requires returns)
+fresh-spec = let met = this.Tie.spec
+    (λ c κs. tt) (λ c κs. tt) (λ c. simp (c .built .ensures, c .before .house .ensures)) in this.Tie.close met

@@ -2,17 +2,8 @@
 use mathlib.Core.Path.{refl}
 use native.Mathlib.Omega.{arith}
 use borrow.Author.Needs.{needs}
-use Rattle.words.proofs.decimal.Decimal.down.Statement.{statement}
-use Rattle.words.proofs.decimal.Decimal.down.Tie as tie
+use Rattle.words.proofs.decimal.Decimal.down as this
 
-add-result : tie.Need-add-result
-add-result c = search needs
-
-returns : tie.Need-returns
-returns c = (simp (c .before .if1 .taken) refl, omega arith)
-
-returns-2 : tie.Need-returns-2
-returns-2 c = search needs
-
-pub down-spec : {M : Type 1} → statement M
-down-spec = tie.close (tie.spec add-result returns returns-2)
+pub down-spec : {M : Type 1} → this.Statement.statement M
+down-spec = let met = this.Tie.spec
+    (λ c. search needs) (λ c. (simp (c .before .if1 .taken) refl, omega arith)) (λ c. search needs) in this.Tie.close met

@@ -1,16 +1,8 @@
 -- The definition, by what each call gives.
 use borrow.Author.Needs.{needs}
-use Rattle.words.proofs.decimal.Decimal.with_fraction.Statement.{statement}
-use Rattle.words.proofs.decimal.Decimal.with_fraction.Tie as tie
+use Rattle.words.proofs.decimal.Decimal.with_fraction as this
 
-extended-requires : tie.Need-extended-requires
-extended-requires c κs = search needs
-
-count-requires : tie.Need-count-requires
-count-requires c κs = search needs
-
-returns : tie.Need-returns
-returns c = simp (c .count .ensures, c .before .extended .ensures)
-
-pub with-fraction-spec : {M : Type 1} → statement M
-with-fraction-spec = tie.close (tie.spec extended-requires count-requires returns)
+pub with-fraction-spec : {M : Type 1} → this.Statement.statement M
+with-fraction-spec = let met = this.Tie.spec
+    (λ c. search needs) (λ c κs. tt)
+    (λ c. simp (c .count .ensures, c .before .extended .ensures)) in this.Tie.close met

@@ -1,13 +1,6 @@
 -- The definition, by what each call gives.
 use borrow.Author.Needs.{needs}
-use Rattle.words.proofs.decimal.Decimal.with_whole.Statement.{statement}
-use Rattle.words.proofs.decimal.Decimal.with_whole.Tie as tie
+use Rattle.words.proofs.decimal.Decimal.with_whole as this
 
-extended-requires : tie.Need-extended-requires
-extended-requires c κs = search needs
-
-returns : tie.Need-returns
-returns c = simp (c .extended .ensures)
-
-pub with-whole-spec : {M : Type 1} → statement M
-with-whole-spec = tie.close (tie.spec extended-requires returns)
+pub with-whole-spec : {M : Type 1} → this.Statement.statement M
+with-whole-spec = let met = this.Tie.spec (λ c. search needs) (λ c. simp (c .extended .ensures)) in this.Tie.close met

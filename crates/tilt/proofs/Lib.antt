@@ -1,0 +1,5 @@
+pub mod HalfTurn
+pub mod Tested
+pub mod CountsHeld
+pub mod Turns
+pub mod RestHistory

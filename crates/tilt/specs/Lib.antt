@@ -1,0 +1,10 @@
+pub mod Types
+pub mod Scalars
+pub mod Rest
+pub mod Gyr
+pub mod Acc
+pub mod HalfTurn
+pub mod Setup
+pub mod Setters
+pub mod Asked
+pub mod RestHistory
