@@ -3,8 +3,11 @@ use borrow.Author.Needs.{needs}
 use Rattle.sambighjone.proofs.Laws.{fed-done}
 use Rattle.sambighjone.proofs.feed.sambighjone_feed_acc as this
 
+returns : this.Tie.Need-returns
+returns c =
+    let called = c .before .before .before .before in
+    fed-done _ _ (called .before .unpack .result) (called .update-acc .result) _ (called .before .unpack .ensures) (called .update-acc .ensures) (c .before .before .keep .ensures)
+
 pub sambighjone-feed-acc-spec : {M : Type 1} → this.Statement.statement M
 sambighjone-feed-acc-spec = let met = this.Tie.spec
-    (λ c. search needs) (λ c. search needs) (λ c. search needs) (λ c. search needs)
-    (λ c. let called = c .before .before .before .before in
-    fed-done _ _ (called .before .unpack .result) (called .update-acc .result) _ (called .before .unpack .ensures) (called .update-acc .ensures) (c .before .before .keep .ensures)) in this.Tie.close met
+    (λ c. search needs) (λ c. search needs) (λ c. search needs) (λ c. search needs) returns in this.Tie.close met
