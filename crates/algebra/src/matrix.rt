@@ -5,7 +5,7 @@ ghost use Rattle.algebra.specs.Matrices.{plus, minus, dot, times, transpose, adj
 use crate::vector::{EPSILON, Vector};
 
 // Row 0, row 1, row 2.
-#[derive(Drop)]
+#[derive(Clone, Copy)]
 pub struct Matrix {
     pub m00: f64,
     pub m01: f64,
@@ -18,7 +18,7 @@ pub struct Matrix {
     pub m22: f64,
 }
 
-#[derive(Drop)]
+#[derive(Clone, Copy)]
 pub enum Inverse {
     // The determinant lies within EPSILON of 0.
     TooSmall,

@@ -4,7 +4,7 @@ ghost use Rattle.algebra.specs.Quaternions.{times, norm, normalize, rotate, appl
 
 use crate::vector::{EPSILON, Vector};
 
-#[derive(Drop)]
+#[derive(Clone, Copy)]
 pub struct Quaternion(pub f64, pub f64, pub f64, pub f64);
 
 impl Quaternion {

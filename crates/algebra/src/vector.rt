@@ -5,7 +5,7 @@ ghost use Rattle.algebra.specs.Vectors.{norm, normalize, clipped, clip, finite};
 // 2^-52: what is shorter is not normalized.
 pub const EPSILON: f64 = 2.220446049250313e-16;
 
-#[derive(Drop)]
+#[derive(Clone, Copy)]
 pub struct Vector(pub f64, pub f64, pub f64);
 
 fn clipped(x: f64, min: f64, max: f64) -> f64

@@ -1,5 +1,6 @@
 // Plays a call script and prints each answer and each stored number by its bits. A line that is no
 // call writes `bad` and its number, says on the error stream what is wrong, and ends the run.
+#![tactic(auto)]
 mod complaint;
 mod input;
 mod output;

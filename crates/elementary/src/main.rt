@@ -1,5 +1,6 @@
 // Writes the bits of the elementary functions at some eighteen thousand floats in hexadecimal, a
 // line each. The file stdout was written by oracle/elementary.rs, from the same recipes in Rust.
+#![tactic(auto)]
 use libc::STDOUT_FILENO;
 
 fn put(x: f64) {

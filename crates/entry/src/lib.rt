@@ -1,5 +1,6 @@
 // A filter that is kept in place and lent to each call: one thin entry for each sensor. Each does what
 // the call by value does, leaves its filter behind the reference and hands back its answer.
+#![tactic(auto)]
 ghost use Rattle.std.specs.Prelude.{◌≡◌};
 ghost use Rattle.std.specs.Float.{binary64};
 ghost use Rattle.limits.specs.Answers.{number, told};
@@ -11,7 +12,7 @@ use limits::Answer;
 use vqf::{Updated, VQF};
 
 // A gyroscope sample and the time since the one before.
-#[derive(Drop)]
+#[derive(Clone, Copy)]
 pub struct Timed {
     pub gyr: Vector,
     pub ts: f64,

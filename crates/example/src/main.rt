@@ -2,6 +2,7 @@
 // the functions with samples in them, and oracle/readme holds it to that. The file stdout was written
 // by oracle/example.rs, which makes the same calls of the Rust source:
 //   target/oracle/example > crates/example/stdout
+#![tactic(auto)]
 mod output;
 
 use algebra::{Quaternion, Vector};

@@ -9,19 +9,19 @@ use crate::coeffs::Coeffs;
 use algebra::Vector;
 
 // What a bank answers to a sample, and its channels after it.
-#[derive(Drop)]
+#[derive(Clone, Copy)]
 pub struct Filtered2 {
     pub y: [f64; 2],
     pub channels: [Channel; 2],
 }
 
-#[derive(Drop)]
+#[derive(Clone, Copy)]
 pub struct Filtered3 {
     pub y: Vector,
     pub channels: [Channel; 3],
 }
 
-#[derive(Drop)]
+#[derive(Clone, Copy)]
 pub struct Filtered9 {
     pub y: [f64; 9],
     pub channels: [Channel; 9],

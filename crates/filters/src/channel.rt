@@ -4,7 +4,7 @@ ghost use Rattle.filters.specs.Channels.{filter_initial_state, filter_adapt_stat
 
 use crate::coeffs::Coeffs;
 
-#[derive(Drop)]
+#[derive(Clone, Copy)]
 pub enum Phase {
     // The count of the samples so far, and their sum.
     Averaging(f64, f64),
@@ -12,13 +12,13 @@ pub enum Phase {
     Running(f64, f64),
 }
 
-#[derive(Drop)]
+#[derive(Clone, Copy)]
 pub struct Channel {
     pub phase: Phase,
 }
 
 // What a channel answers to a sample, and the channel after it.
-#[derive(Drop)]
+#[derive(Clone, Copy)]
 pub struct Filtered {
     pub y: f64,
     pub channel: Channel,

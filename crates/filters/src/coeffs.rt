@@ -7,7 +7,7 @@ use floats::PI;
 const SQRT_2: f64 = 1.4142135623730951;
 
 // Three coefficients b and two coefficients a.
-#[derive(Drop)]
+#[derive(Clone, Copy)]
 pub struct Coeffs {
     pub b0: f64,
     pub b1: f64,

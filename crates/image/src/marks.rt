@@ -5,7 +5,7 @@ ghost use Rattle.image.specs.Marks.{flag, on, marked, channel};
 use filters::{Channel, Phase};
 
 // A channel's phase, and its two numbers.
-#[derive(Drop)]
+#[derive(Clone, Copy)]
 pub struct Mark(pub f64, pub f64, pub f64);
 
 // 1 for yes, 0 for no.

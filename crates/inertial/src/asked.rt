@@ -9,7 +9,7 @@ use floats::PI;
 use tilt::Deviations;
 
 // A bias and its uncertainty in the worst direction.
-#[derive(Drop)]
+#[derive(Clone, Copy)]
 pub struct BiasEstimate {
     pub bias: Vector,
     pub sigma: f64,

@@ -10,7 +10,7 @@ use tilt::angle::radians;
 use tilt::{Inclination, Rest};
 
 // The rotation matrix and the first two components of the rotated bias, low-pass filtered.
-#[derive(Drop)]
+#[derive(Clone, Copy)]
 pub struct Smooth {
     pub r: Matrix,
     pub bias_lp: [f64; 2],
@@ -19,20 +19,20 @@ pub struct Smooth {
 }
 
 // The error e, with the variances w, seen through r. A negative w.0 says that there is none.
-#[derive(Drop)]
+#[derive(Clone, Copy)]
 pub struct Measurement {
     pub e: Vector,
     pub w: Vector,
     pub r: Matrix,
 }
 
-#[derive(Drop)]
+#[derive(Clone, Copy)]
 pub struct Estimate {
     pub bias: Vector,
     pub bias_p: Matrix,
 }
 
-#[derive(Drop)]
+#[derive(Clone, Copy)]
 pub enum KalmanStep {
     // The matrix to invert has a determinant within EPSILON of 0, or one that is not finite.
     TooSmall,
@@ -41,7 +41,7 @@ pub enum KalmanStep {
 }
 
 // `bias` is the next group where the determinant is neither; `finite` says whether it is finite.
-#[derive(Drop)]
+#[derive(Clone, Copy)]
 pub struct TriedBias {
     pub det_too_small: bool,
     pub det_not_finite: bool,

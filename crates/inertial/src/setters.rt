@@ -13,7 +13,7 @@ use tilt::Rest;
 use tilt::angle::radians;
 use tilt::setters::adapted_inclination;
 
-#[derive(Drop)]
+#[derive(Clone, Copy)]
 pub enum Sigma {
     Absent,
     Given(f64),

@@ -8,7 +8,7 @@ use filters::{Channel, Coeffs};
 use limits::Answer;
 use tilt::{Inclination, Rest, RestParams};
 
-#[derive(Drop)]
+#[derive(Clone, Copy)]
 pub struct BiasParams {
     pub motion_bias_est_enabled: bool,
     pub bias_sigma_init: f64,
@@ -18,14 +18,14 @@ pub struct BiasParams {
     pub bias_sigma_rest: f64,
 }
 
-#[derive(Drop)]
+#[derive(Clone, Copy)]
 pub struct InertialParams {
     pub tau_acc: f64,
     pub rest: RestParams,
     pub bias: BiasParams,
 }
 
-#[derive(Drop)]
+#[derive(Clone, Copy)]
 pub struct BiasCoefficients {
     pub bias_p0: f64,
     pub bias_v: f64,
@@ -34,7 +34,7 @@ pub struct BiasCoefficients {
     pub bias_rest_w: f64,
 }
 
-#[derive(Drop)]
+#[derive(Clone, Copy)]
 pub struct InertialCoefficients {
     pub gyr_ts: f64,
     pub acc_ts: f64,
@@ -44,7 +44,7 @@ pub struct InertialCoefficients {
     pub bias: BiasCoefficients,
 }
 
-#[derive(Drop)]
+#[derive(Clone, Copy)]
 pub struct Bias {
     pub bias: Vector,
     pub bias_p: Matrix,
@@ -52,21 +52,21 @@ pub struct Bias {
     pub motion_bias_est_bias_lp_state: [Channel; 2],
 }
 
-#[derive(Drop)]
+#[derive(Clone, Copy)]
 pub struct InertialState {
     pub inclination: Inclination,
     pub bias: Bias,
     pub rest: Rest,
 }
 
-#[derive(Drop)]
+#[derive(Clone, Copy)]
 pub struct Inertial {
     pub params: InertialParams,
     pub coeffs: InertialCoefficients,
     pub state: InertialState,
 }
 
-#[derive(Drop)]
+#[derive(Clone, Copy)]
 pub struct Updated {
     pub answer: Answer,
     pub inertial: Inertial,

@@ -8,7 +8,7 @@ use crate::types::{Field, Heading, MagneticCoefficients, MagneticParams};
 use floats::PI;
 
 // A gain, and the field with its rejection time.
-#[derive(Drop)]
+#[derive(Clone, Copy)]
 pub struct Rejection {
     pub k: f64,
     pub field: Field,

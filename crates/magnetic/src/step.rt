@@ -11,7 +11,7 @@ use algebra::Vector;
 use limits::Answer;
 
 // What a step would store, and whether every number of it is finite.
-#[derive(Drop)]
+#[derive(Clone, Copy)]
 pub struct TriedState {
     pub finite: bool,
     pub state: MagneticState,

@@ -2,7 +2,7 @@ use algebra::{Quaternion, Vector};
 use filters::{Channel, Coeffs};
 use limits::Answer;
 
-#[derive(Drop)]
+#[derive(Clone, Copy)]
 pub struct MagneticParams {
     pub tau_mag: f64,
     pub mag_current_tau: f64,
@@ -18,13 +18,13 @@ pub struct MagneticParams {
 }
 
 // The filter of the norm and dip, where there is one.
-#[derive(Drop)]
+#[derive(Clone, Copy)]
 pub enum Smoothing {
     Absent,
     Present(Coeffs),
 }
 
-#[derive(Drop)]
+#[derive(Clone, Copy)]
 pub struct MagneticCoefficients {
     pub mag_ts: f64,
     pub k_mag: f64,
@@ -33,10 +33,10 @@ pub struct MagneticCoefficients {
 }
 
 // A norm and a dip.
-#[derive(Drop)]
+#[derive(Clone, Copy)]
 pub struct NormDip(pub f64, pub f64);
 
-#[derive(Drop)]
+#[derive(Clone, Copy)]
 pub struct Heading {
     pub delta: f64,
     pub k_mag_init: f64,
@@ -44,7 +44,7 @@ pub struct Heading {
     pub last_mag_corr_angular_rate: f64,
 }
 
-#[derive(Drop)]
+#[derive(Clone, Copy)]
 pub struct Field {
     pub mag_dist_detected: bool,
     pub mag_ref_norm: f64,
@@ -58,13 +58,13 @@ pub struct Field {
     pub mag_norm_dip_lp_state: [Channel; 2],
 }
 
-#[derive(Drop)]
+#[derive(Clone, Copy)]
 pub struct MagneticState {
     pub heading: Heading,
     pub field: Field,
 }
 
-#[derive(Drop)]
+#[derive(Clone, Copy)]
 pub struct Magnetic {
     pub params: MagneticParams,
     pub coeffs: MagneticCoefficients,
@@ -72,14 +72,14 @@ pub struct Magnetic {
 }
 
 // What a magnetometer step reads of the inertial half.
-#[derive(Drop)]
+#[derive(Clone, Copy)]
 pub struct Seen {
     pub quat_6d: Quaternion,
     pub mag_dist_rejection_enabled: bool,
     pub rest_last_gyr_lp: Vector,
 }
 
-#[derive(Drop)]
+#[derive(Clone, Copy)]
 pub struct Updated {
     pub answer: Answer,
     pub magnetic: Magnetic,

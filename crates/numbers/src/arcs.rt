@@ -51,7 +51,7 @@ fn kasin(z: f64) -> f64
 }
 
 // The arc cosine of a, from 0.5 to 1, as g + q: twice the arc sine of the root of (1 - a) / 2.
-#[derive(Drop)]
+#[derive(Clone, Copy)]
 struct Parts {
     g: f64,
     q: f64,

@@ -68,7 +68,7 @@ const P2: f64 = 5.390302858158031e-15;
 const P3: f64 = 8.843720566135701e-29;
 
 // An angle as k quarter turns and r - d: m is k mod 4, from -2 to 2.
-#[derive(Drop)]
+#[derive(Clone, Copy)]
 struct Reduced {
     m: f64,
     r: f64,

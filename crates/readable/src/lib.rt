@@ -1,4 +1,5 @@
 // Angles as a person reads them.
+#![tactic(auto)]
 ghost use Rattle.std.specs.Prelude.{◌≡◌};
 ghost use Rattle.std.specs.Float.{binary64};
 ghost use Rattle.readable.specs.Angles.{degrees, tilt, heading, signed, to_tenths};
@@ -7,7 +8,7 @@ use algebra::{Quaternion, Vector};
 use floats::PI;
 
 // Whole tenths, and whether the number is below zero; or that it has no such number.
-#[derive(Drop)]
+#[derive(Clone, Copy)]
 pub enum Tenths {
     None,
     Above(u64),

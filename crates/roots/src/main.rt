@@ -1,6 +1,7 @@
 // Writes the bits of the square roots of some thirty thousand floats in hexadecimal, a line
 // each. With a number on the standard input it draws that many times in place of 1000.
 // The file stdout was written by oracle/roots.rs, which takes the same floats to another root.
+#![tactic(auto)]
 use libc::{STDERR_FILENO, STDIN_FILENO, STDOUT_FILENO};
 
 // From 1 to the next float.

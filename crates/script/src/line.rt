@@ -6,7 +6,7 @@ use crate::names::{BIAS, DASH, HOUSE, NEW, ONE, UPD, ZERO, is_call, is_switch, m
 use words::{Number, Word};
 
 // What is wrong with a word.
-#[derive(Drop)]
+#[derive(Clone, Copy)]
 pub enum What {
     Nothing,
     NoCall,
@@ -19,7 +19,7 @@ pub enum What {
 }
 
 // Which word it is, the line's first being 1, its first bytes as `Word` packs them, and its length.
-#[derive(Drop)]
+#[derive(Clone, Copy)]
 pub struct Fault {
     pub what: What,
     pub word: usize,
@@ -28,7 +28,7 @@ pub struct Fault {
 }
 
 // What a word's place in a line asks for.
-#[derive(Drop)]
+#[derive(Clone, Copy)]
 pub enum Place {
     Number,
     NumberOrDash,
@@ -38,7 +38,7 @@ pub enum Place {
 
 // The name, and of the words behind it the numbers, and which are a dash. A switch is 0 or 1. After
 // `house`, and after the dash in place of a magnetometer sample, the line is closed.
-#[derive(Drop)]
+#[derive(Clone, Copy)]
 pub struct Line {
     pub name: u64,
     pub count: usize,

@@ -6,7 +6,7 @@ ghost use Rattle.script.specs.Readers.{is_blank, parted, ended, commented, with_
 use crate::line::Line;
 use words::Word;
 
-#[derive(Drop)]
+#[derive(Clone, Copy)]
 pub struct Reader {
     pub word: Word,
     pub line: Line,

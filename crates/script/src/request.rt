@@ -18,7 +18,7 @@ use magnetic::MagneticParams;
 use tilt::RestParams;
 use vqf::{Interval, Params, Sample, Settings};
 
-#[derive(Drop)]
+#[derive(Clone, Copy)]
 pub struct Construction {
     pub gyr_ts: f64,
     pub acc_ts: Interval,
@@ -27,7 +27,7 @@ pub struct Construction {
 }
 
 // A call with one answer.
-#[derive(Drop)]
+#[derive(Clone, Copy)]
 pub enum Call {
     New(Construction),
     Gyr(Vector),
@@ -45,14 +45,14 @@ pub enum Call {
     Reset,
 }
 
-#[derive(Drop)]
+#[derive(Clone, Copy)]
 pub struct Samples {
     pub gyr: Vector,
     pub acc: Vector,
     pub mag: Sample,
 }
 
-#[derive(Drop)]
+#[derive(Clone, Copy)]
 pub enum Request {
     // A line without a word.
     Nothing,

@@ -1,6 +1,7 @@
 // Plays a call script and prints a table that a person reads. Tilt is how far the third axis is from
 // straight up and heading where the first axis points, both in degrees. A line that is no call is
 // told on the error stream, and ends the run.
+#![tactic(auto)]
 mod complaint;
 mod input;
 mod output;

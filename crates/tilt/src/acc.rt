@@ -9,7 +9,7 @@ use algebra::{Quaternion, Vector};
 use filters::Coeffs;
 
 // The inclination after a sample, and the sample in the earth frame, of length 1, before the correction.
-#[derive(Drop)]
+#[derive(Clone, Copy)]
 pub struct TriedInclination {
     pub finite: bool,
     pub inclination: Inclination,

@@ -12,14 +12,14 @@ use filters::Coeffs;
 use limits::Answer;
 
 // What a gyro sample leaves of the two things that it changes.
-#[derive(Drop)]
+#[derive(Clone, Copy)]
 pub struct AfterGyr {
     pub answer: Answer,
     pub rest: Rest,
     pub quat: Quaternion,
 }
 
-#[derive(Drop)]
+#[derive(Clone, Copy)]
 pub struct TriedQuat {
     pub finite: bool,
     pub quat: Quaternion,

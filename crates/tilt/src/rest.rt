@@ -7,7 +7,7 @@ use crate::types::Rest;
 use algebra::Vector;
 
 // What a step would store of a group, and whether every number of it is finite.
-#[derive(Drop)]
+#[derive(Clone, Copy)]
 pub struct TriedRest {
     pub finite: bool,
     pub rest: Rest,

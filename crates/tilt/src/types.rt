@@ -2,7 +2,7 @@ use algebra::{Quaternion, Vector};
 use filters::Channel;
 
 // What rest detection reads. The disturbance switch is here because it starts the gyro rest filter.
-#[derive(Drop)]
+#[derive(Clone, Copy)]
 pub struct RestParams {
     pub rest_bias_est_enabled: bool,
     pub mag_dist_rejection_enabled: bool,
@@ -13,7 +13,7 @@ pub struct RestParams {
     pub rest_th_acc: f64,
 }
 
-#[derive(Drop)]
+#[derive(Clone, Copy)]
 pub struct Inclination {
     pub gyr_quat: Quaternion,
     pub acc_quat: Quaternion,
@@ -23,10 +23,10 @@ pub struct Inclination {
 }
 
 // Of the gyroscope and of the accelerometer.
-#[derive(Drop)]
+#[derive(Clone, Copy)]
 pub struct Deviations(pub f64, pub f64);
 
-#[derive(Drop)]
+#[derive(Clone, Copy)]
 pub struct Rest {
     pub rest_detected: bool,
     pub rest_last_squared_deviations: Deviations,

@@ -17,7 +17,7 @@ const NEWLINE: u64 = 10;
 const COUNT_LIMIT: u64 = 1_000_000_000_000;
 
 // What was read of a line.
-#[derive(Drop)]
+#[derive(Clone, Copy)]
 struct Line {
     name: u64,
     count: u64,

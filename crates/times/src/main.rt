@@ -2,6 +2,7 @@
 // calls of that kind a fresh house filter takes. Each line writes how many of them were answered 0
 // and some numbers that the last one left. The file stdout was written by oracle/times.rs:
 //   target/oracle/times_port < crates/times/stdin > crates/times/stdout
+#![tactic(auto)]
 mod input;
 mod output;
 mod play;

@@ -59,7 +59,7 @@ const TENS: [f64; 23] = [
 
 // The digits before the power as one whole number, how many of them stand behind the point, and the
 // power, which `lowered` makes negative.
-#[derive(Drop)]
+#[derive(Clone, Copy)]
 pub struct Decimal {
     pub stage: u8,
     pub negative: bool,
@@ -70,7 +70,7 @@ pub struct Decimal {
 }
 
 // What a text is as a number.
-#[derive(Drop)]
+#[derive(Clone, Copy)]
 pub enum Number {
     None,
     TooLong,

@@ -6,7 +6,7 @@ use crate::decimal::{Decimal, Number, count, digit};
 
 // Its first seven bytes, packed behind a 1; how many bytes it has; the bits that it spells in base
 // 16, if it does; and what it is as a decimal.
-#[derive(Drop)]
+#[derive(Clone, Copy)]
 pub struct Word {
     pub text: u64,
     pub length: u64,

@@ -3,6 +3,7 @@
 // written by the oracle:
 //   target/oracle/expect found oracle/worked.expected <(target/oracle/port < oracle/worked.calls)
 // up to line 36.
+#![tactic(auto)]
 use algebra::Vector;
 use filters::{Channel, Phase};
 use inertial::types::BiasParams;
