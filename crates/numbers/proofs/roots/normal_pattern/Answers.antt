@@ -1,9 +1,9 @@
 -- `numbers::normal_pattern` meets its contract: what the floats give is taken only where whole numbers say that it is closest.
-use Rattle.floats.specs.Prelude.{needs, ◌≡◌, sym, subst, not, ℕ, ◌+◌, ◌-◌, ◌*◌, ◌/◌, ◌%◌, ◌^◌, ◌≤◌, ◌<◌, le_trans, arith, T, lit≤, bit_and, binary64, of_bits, nan_bits}
+use Rattle.floats.specs.Prelude.{◌≡◌, sym, subst, not, ℕ, ◌+◌, ◌-◌, ◌*◌, ◌/◌, ◌%◌, ◌^◌, ◌≤◌, ◌<◌, le_trans, arith, T, lit≤, bit_and, binary64, of_bits, nan_bits}
 use Rattle.numbers.specs.Root.{root_of, Closest}
 use Rattle.floats.specs.NoNan.{self_equal}
 use Rattle.numbers.proofs.Normal.{shifted, c_lt, answer, bit_lt}
-use Rattle.numbers.proofs.roots.normal_pattern as this
+use Rattle.numbers.proofs.roots.normal_pattern.Goals as goal
 
 -- q and low make n again, and the pattern is n
 found : (m e q n : ℕ) → 2 ^ 52 ≤ m → m < 2 ^ 53 → 1074 ≤ e → e < 3120 → q < 2 ^ 53 → (q + (e - 52) / 2 * 4503599627370496 % 2 ^ 64) % 2 ^ 64 ≡ n
@@ -15,12 +15,17 @@ found m e q n lo hi E1 E2 Q p c =
     again : (k : ℕ) → k < 1534 → (q + k * 4503599627370496 % 2 ^ 64) % 2 ^ 64 ≡ n → k * 4503599627370496 + q ≡ n
     again k h p = omega arith
 
-pub normal_pattern_spec : {M : Type 1} → this.Statement.statement M
-normal_pattern_spec = let met = this.Tie.spec
-    (λ c. bit_lt c.args.e) (λ c. search needs) (λ c. search needs) (λ c. search needs) (λ c. self_equal _ c.if1.taken) (λ c κs. tt)
-    (λ c κs. let m = c.before.before.before.before.args.m in
-    let e = c.before.before.before.before.args.e in
-    (omega arith, subst (λ (z : ℕ). z < 2 ^ 54) (sym (shifted m e (omega arith))) (c_lt m e (omega arith))))
-    (λ c. let s = c.before.before.before.before.before.before in
-    found s.args.m s.args.e c.before.before.before.wrapping-sub-u64.result _ s.pre.1 s.pre.2 s.pre.3 s.pre.4 (omega arith) c.before.before.before.wrapping-sub-u64.ensures (c.before.is-closest.ensures c.if3.taken))
-    (λ c. search needs) (λ c. search needs) in this.Tie.close met
+pub overflow_shl-c : goal.overflow_shl-c
+overflow_shl-c c = bit_lt c.args.e
+
+pub float_to_bits-n : goal.float_to_bits-n
+float_to_bits-n c = self_equal _ c.if-r.true
+
+pub is_closest-requires : goal.is_closest-requires
+is_closest-requires c = let m = c.args.m in
+    let e = c.args.e in
+    (omega arith, subst (λ (z : ℕ). z < 2 ^ 54) (sym (shifted m e (omega arith))) (c_lt m e (omega arith)))
+
+pub returns-then-is_closest : goal.returns-then-is_closest
+returns-then-is_closest c = let s = c.before.before.before.before.before.before in
+    found s.args.m s.args.e c.wrapping_sub_u64-q.result _ s.requires.1 s.requires.2 s.requires.3 s.requires.4 (omega arith) c.wrapping_sub_u64-q.ensures.value (c.is_closest.ensures c.if-is_closest.true)

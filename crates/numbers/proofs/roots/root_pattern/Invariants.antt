@@ -1,0 +1,12 @@
+-- `numbers::root_pattern` meets its contract.
+use Rattle.floats.specs.Prelude.{◌≡◌, refl, sym, subst, not, ℕ, ◌+◌, ◌-◌, ◌*◌, ◌/◌, ◌%◌, ◌^◌, ◌≤◌, ◌<◌, arith, le_trans, T, lit≤, binary64, of_bits, nan_bits}
+use Rattle.std.proofs.Common.{w64, Fits}
+use Rattle.numbers.specs.Root.{root_of, Closest}
+use Rattle.numbers.proofs.Normal.{doubled, large, shifted, c_ge, c_lt, k_shifted, answer, q_small, bit_lt, sum_lt}
+use Rattle.numbers.proofs.roots.root_pattern.Given as goal
+
+abbrev pub invariant-loop-m : goal.invariant-loop-m
+invariant-loop-m l = (l.m * 2 ^ l.e ≡ l.m0 * 2 ^ l.e0) × (0 < l.m) × (l.m < 2 ^ 53) × (l.e < 3120)
+
+abbrev pub decreases-loop-m : goal.decreases-loop-m
+decreases-loop-m l = 2 ^ 53 - l.m
