@@ -1,0 +1,13 @@
+-- After i turns the first i channels are adapted.
+use Rattle.std.proofs.Common.{rules}
+use Rattle.floats.specs.Prelude.{◌-◌}
+use Rattle.filters.specs.Channels.{filter_adapt_state_for_coeff_change}
+use Rattle.filters.specs.Banks.{sample, channel, adapted, adapt9}
+use Rattle.filters.proofs.Fill.{Filling, filling_none, filling_more, filling_done}
+use Rattle.filters.proofs.bank.adapt9.Given as goal
+
+abbrev pub invariant-loop-i : goal.invariant-loop-i
+invariant-loop-i l = Filling (λ j. filter_adapt_state_for_coeff_change (sample l.last_y j) l.old l.new (channel l.c j)) 9 l.c
+
+abbrev pub decreases-loop-i : goal.decreases-loop-i
+decreases-loop-i l = 9 - l.i

@@ -1,0 +1,19 @@
+-- After i turns the first i answers and channels are the definition's.
+use Rattle.std.proofs.Common.{rules}
+use Rattle.floats.specs.Prelude.{◌-◌, binary64}
+use Rattle.filters.specs.Banks.{filtered, outputs, channels, filter_vec3, of_components}
+use Rattle.filters.proofs.Fill.{Filtering, filtering_none, filtering_more, filtering_done}
+use Rattle.filters.proofs.bank.filter_vec3.Goals as goal
+
+pub loop-i-init : goal.loop-i-init
+unfolding filter_vec3 outputs channels
+loop-i-init c = filtering_none
+
+pub loop-i-preserved : goal.loop-i-preserved
+unfolding filter_vec3 outputs channels
+loop-i-preserved c = filtering_more c.loop-i.invariant c.loop-i-test.true (search rules) (search rules) c.filter_channel-f.ensures
+
+pub returns : goal.returns
+unfolding filter_vec3 outputs channels
+returns c = let done = filtering_done c.loop-i.invariant c.loop-i-test.false (search rules) (search rules) in
+    λ j. record { y = of_components (done.0 j); channels = done.1 j }

@@ -1,0 +1,18 @@
+-- After i turns the flag says whether the first i channels are finite.
+use Rattle.floats.specs.Prelude.{◌-◌}
+use Rattle.filters.specs.Channels.{finite_channel}
+use Rattle.filters.specs.Banks.{channel, finite_channels}
+use Rattle.filters.proofs.Fill.{Checking, checking_none, checking_more, checking_done}
+use Rattle.filters.proofs.bank.finite_channels9.Goals as goal
+
+pub loop-i-init : goal.loop-i-init
+unfolding finite_channels
+loop-i-init c = checking_none
+
+pub loop-i-preserved : goal.loop-i-preserved
+unfolding finite_channels
+loop-i-preserved c = checking_more c.loop-i.invariant c.loop-i-test.true c.finite_channel-all.ensures
+
+pub returns : goal.returns
+unfolding finite_channels
+returns c = checking_done c.loop-i.invariant c.loop-i-test.false
