@@ -7,7 +7,7 @@ use Rattle.filters.proofs.Fill.{Filling, filling_none, filling_more, filling_don
 use Rattle.filters.proofs.bank.adapt2.Given as goal
 
 abbrev pub invariant-loop-i : goal.invariant-loop-i
-invariant-loop-i l = Filling (λ j. filter_adapt_state_for_coeff_change (sample l.last_y j) l.old l.new (channel l.c j)) 2 l.c
+invariant-loop-i l = Filling (λ j. filter_adapt_state_for_coeff_change (sample l.last_y j) l.old l.new (channel l.c j)) 2 l.c l.channels l.i
 
 abbrev pub decreases-loop-i : goal.decreases-loop-i
 decreases-loop-i l = 2 - l.i

@@ -6,7 +6,7 @@ use Rattle.filters.proofs.Fill.{Filtering, filtering_none, filtering_more, filte
 use Rattle.filters.proofs.bank.filter_vec3.Given as goal
 
 abbrev pub invariant-loop-i : goal.invariant-loop-i
-invariant-loop-i l = Filtering (filtered binary64 l.xs l.tau l.ts l.coeffs l.c) 3 l.xs l.c
+invariant-loop-i l = Filtering (filtered binary64 l.xs l.tau l.ts l.coeffs l.c) 3 l.xs l.c l.ys l.channels l.i
 
 abbrev pub decreases-loop-i : goal.decreases-loop-i
 decreases-loop-i l = 3 - l.i

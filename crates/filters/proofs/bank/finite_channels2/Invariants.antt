@@ -6,7 +6,7 @@ use Rattle.filters.proofs.Fill.{Checking, checking_none, checking_more, checking
 use Rattle.filters.proofs.bank.finite_channels2.Given as goal
 
 abbrev pub invariant-loop-i : goal.invariant-loop-i
-invariant-loop-i l = Checking (λ j. finite_channel (channel l.c j)) 2
+invariant-loop-i l = Checking (λ j. finite_channel (channel l.c j)) 2 l.all l.i
 
 abbrev pub decreases-loop-i : goal.decreases-loop-i
 decreases-loop-i l = 2 - l.i

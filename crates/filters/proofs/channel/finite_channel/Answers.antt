@@ -1,13 +1,12 @@
 -- By what the calls ensure and the tests on the way.
-use Rattle.std.proofs.Common.{rules}
 use Rattle.filters.specs.Channels.{finite_channel}
 use borrow.Author.Rules.{rules}
 use Rattle.filters.proofs.channel.finite_channel.Goals as goal
 
-pub finite-requires : goal.finite-requires
+pub returns-in-Averaging : goal.returns-in-Averaging
 unfolding finite_channel
-finite-requires c = search rules
+returns-in-Averaging c = simp (c.finite-in-Averaging.ensures, c.finite.ensures, c.in-Averaging.is)
 
-pub finite-requires-in-Running-2 : goal.finite-requires-in-Running-2
+pub returns-in-Running : goal.returns-in-Running
 unfolding finite_channel
-finite-requires-in-Running-2 c = search rules
+returns-in-Running c = simp (c.finite-in-Running-2.ensures, c.finite-in-Running.ensures, c.in-Running.is)
