@@ -3,4 +3,4 @@ use Rattle.floats.specs.Prelude.{refl, arith}
 use Rattle.words.proofs.decimal.Decimal.down.Goals as goal
 
 pub returns-then-self : goal.returns-then-self
-returns-then-self c = (simp c.if-self.true refl, omega arith)
+returns-then-self c = record { value = simp c.if-self.true refl; upper_bound = omega arith }
