@@ -1,0 +1,17 @@
+-- The definition, by what each call gives and the tests that led here.
+use Rattle.std.proofs.Common.{rules}
+use borrow.Author.Rules.{rules}
+use Rattle.inertial.specs.Kalman.{bias_step}
+use Rattle.inertial.proofs.kalman.bias_step.Goals as goal
+
+pub times-requires : goal.times-requires
+unfolding bias_step
+times-requires c = search rules
+
+pub returns-then-params : goal.returns-then-params
+unfolding bias_step
+returns-then-params c = simp (← c.updated_bias.ensures, ← c.estimated.ensures, ← c.radians.ensures, ← c.widened.ensures, ← c.measured.ensures, ← c.smoothed.ensures, ← c.rotation.ensures, ← c.times.ensures, c.if1.true)
+
+pub returns-else-params : goal.returns-else-params
+unfolding bias_step
+returns-else-params c = simp c.if-params.false

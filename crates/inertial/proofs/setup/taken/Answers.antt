@@ -1,0 +1,7 @@
+-- The definition, by what each call gives.
+use Rattle.inertial.specs.Setup.{taken}
+use Rattle.inertial.proofs.setup.taken.Goals as goal
+
+pub returns : goal.returns
+unfolding taken
+returns c = simp (c.bias_params_taken.ensures, c.rest_params_taken.ensures, c.tau_taken.ensures, c.interval-taken2.ensures, c.interval_taken.ensures)

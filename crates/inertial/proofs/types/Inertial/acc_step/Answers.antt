@@ -1,0 +1,7 @@
+-- The definition, by what each call gives.
+use Rattle.inertial.specs.Acc.{acc_step}
+use Rattle.inertial.proofs.types.Inertial.acc_step.Goals as goal
+
+pub returns : goal.returns
+unfolding acc_step
+returns c = simp (c.acc_settled.ensures, c.bias_step-b.ensures, c.inclined.ensures, c.acc_rest.ensures)
