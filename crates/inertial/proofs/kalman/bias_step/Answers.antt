@@ -10,7 +10,7 @@ times-requires c = search rules
 
 pub returns-then-params : goal.returns-then-params
 unfolding bias_step
-returns-then-params c = simp (← c.updated_bias.ensures, ← c.estimated.ensures, ← c.radians.ensures, ← c.widened.ensures, ← c.measured.ensures, ← c.smoothed.ensures, ← c.rotation.ensures, ← c.times.ensures, c.if1.true)
+returns-then-params c = simp (← c.updated_bias.ensures, ← c.estimated.ensures, ← c.radians-clip.ensures, ← c.widened-p.ensures, ← c.measured-m.ensures, ← c.smoothed-s.ensures, ← c.rotation-r.ensures, ← c.times.ensures, c.if-params.true)
 
 pub returns-else-params : goal.returns-else-params
 unfolding bias_step

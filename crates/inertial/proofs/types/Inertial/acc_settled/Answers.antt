@@ -8,7 +8,7 @@ returns-then-b c = simp c.if-b.true
 
 pub returns-then-r-i : goal.returns-then-r-i
 unfolding acc_settled
-returns-then-r-i c = simp (← c.with_groups.ensures, c.if2.taken, c.if1.left)
+returns-then-r-i c = simp (← c.with_groups.ensures, c.if-r-i.true, c.if-b.false)
 
 pub returns-else-r-i : goal.returns-else-r-i
 unfolding acc_settled

@@ -4,7 +4,7 @@ use Rattle.inertial.proofs.types.Inertial.set_bias_estimate.Goals as goal
 
 pub returns-then-bias_taken-sigma_or_none_taken : goal.returns-then-bias_taken-sigma_or_none_taken
 unfolding set_bias_estimate
-returns-then-bias_taken-sigma_or_none_taken c = simp (← c.with_groups.ensures, ← c.with_estimate.ensures, c.if1.taken, ← c.sigma_or_none_taken.ensures, ← c.bias_taken.ensures)
+returns-then-bias_taken-sigma_or_none_taken c = simp (← c.with_groups.ensures, ← c.with_estimate-estimate.ensures, c.if-bias_taken-sigma_or_none_taken.true, ← c.sigma_or_none_taken.ensures, ← c.bias_taken.ensures)
 
 pub returns-else-bias_taken-sigma_or_none_taken : goal.returns-else-bias_taken-sigma_or_none_taken
 unfolding set_bias_estimate

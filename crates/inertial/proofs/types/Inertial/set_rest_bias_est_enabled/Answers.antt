@@ -8,4 +8,4 @@ returns-then-self-enabled c = simp c.if-self-enabled.true
 
 pub returns-else-self-enabled : goal.returns-else-self-enabled
 unfolding set_rest_bias_est_enabled
-returns-else-self-enabled c = simp (c.with_groups.ensures, c.fresh.ensures, c.with_rest_params.ensures, c.if1.left)
+returns-else-self-enabled c = simp (c.with_groups.ensures, c.fresh.ensures, c.with_rest_params.ensures, c.if-self-enabled.false)

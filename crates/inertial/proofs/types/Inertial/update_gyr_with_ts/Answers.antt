@@ -5,4 +5,4 @@ use Rattle.inertial.proofs.types.Inertial.update_gyr_with_ts.Goals as goal
 
 pub returns : goal.returns
 unfolding update_gyr_with_ts
-returns c = simp c.with_groups-inertial.ensures (ap (put_back c.args.self) c.update_gyr.ensures)
+returns c = simp c.with_groups-inertial.ensures (ap (put_back c.args.self) c.update_gyr-u.ensures)
