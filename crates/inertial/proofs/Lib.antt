@@ -1,0 +1,15 @@
+pub mod Parts
+pub mod Construction
+pub mod Runs
+pub mod RestHistory
+pub mod Steps
+pub mod Tested
+pub mod BiasLimit
+pub mod FiniteCalls
+pub mod Invariants
+pub mod BiasHeld
+pub mod CountsHeld
+pub mod Sound
+pub mod Sigma
+pub mod Turns
+pub mod Answers
