@@ -5,7 +5,7 @@ use Rattle.readable.proofs.signed.Goals as goal
 
 pub truncating_f64_to_u64-n-requires : goal.truncating_f64_to_u64-n-requires
 unfolding of_bits neg signed
-truncating_f64_to_u64-n-requires c = ?
+truncating_f64_to_u64-n-requires c = record { lower_bound = subst T (sym c.if-y.true) tt; upper_bound = subst T (sym c.if-y-2.true) tt }
 
 pub returns-then-is_below : goal.returns-then-is_below
 unfolding of_bits neg signed
