@@ -14,15 +14,15 @@ pub returns : goal.returns
 unfolding put
 returns c = let s = c.args in
     let l = c.loop-i in
-    (l.inv.0 ∙ ap (λ (t : List Float). put t s.image.now s.at) (take_all l.i s.xs.now c.loop-i-test.false), l.inv.2)
+    (l.invariant.0 ∙ ap (λ (t : List Float). put t s.image.now s.at) (take_all l.i s.xs.now c.loop-i-test.false), l.invariant.2)
 
-pub loop-i-smaller : goal.loop-i-smaller
+pub loop-i-preserved : goal.loop-i-preserved
 unfolding put
-loop-i-smaller c = let s = c.args in
+loop-i-preserved c = let s = c.args in
     let l = c.loop-i in (
-      ap (λ (t : List Float). set t (s.at + l.i) (get_or s.xs.now l.i nan)) l.inv.0
+      ap (λ (t : List Float). set t (s.at + l.i) (get_or s.xs.now l.i nan)) l.invariant.0
           ∙ put_more s.xs.now s.image.now s.at l.i c.loop-i-test.true
           ∙ ap (λ (k : ℕ). put (take k s.xs.now) s.image.now s.at) (sym (add-one l.i)),
       search rules,
-      length-set l.image _ _ ∙ l.inv.2,
+      length-set l.image _ _ ∙ l.invariant.2,
     )

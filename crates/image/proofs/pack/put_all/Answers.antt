@@ -29,5 +29,5 @@ returns c = let rest = c.before.before.before.before.before.before in
     let coeffs = inclination.before.before.before.before in
     let params = coeffs.before.before.before.before in
     let s = params.before.before.before in
-    put_pack s.args.f s.args.image.now s.requires params.put_params.ensures coeffs.put-coeffs.ensures
-    inclination.put-inclination.ensures bias.put_bias.ensures rest.put_rest.ensures c.put_magnetic_state.ensures
+    put_pack s.args.f s.args.image.now s.requires params.put_params.ensures coeffs.put_coeffs.ensures
+    inclination.put_inclination.ensures bias.put_bias.ensures rest.put_rest.ensures c.put_magnetic_state.ensures
