@@ -1,6 +1,5 @@
 -- By the branch taken.
 use Rattle.image.specs.Marks.{marked}
-use borrow.Author.Rules.{rules}
 use Rattle.image.proofs.marks.marked.Goals as goal
 
 pub returns-in-Averaging : goal.returns-in-Averaging

@@ -1,7 +1,6 @@
 -- Number by number.
 use Rattle.image.specs.Marks.{flag}
 use Rattle.image.specs.Pack.{magnetic_coeffs}
-use borrow.Author.Rules.{rules}
 use Rattle.image.proofs.pack.magnetic_coeffs.Goals as goal
 
 pub returns-in-Absent : goal.returns-in-Absent

@@ -1,9 +1,6 @@
 -- After i turns the first i numbers are written.
-use Rattle.std.proofs.Common.{rules}
-use Rattle.floats.specs.Prelude.{◌≡◌, refl, sym, ap, ◌∙◌, ℕ, ◌+◌, ◌≤◌, ◌-◌, add-one, length, take, set, get_or, length-set, List, Float, nan}
-use lib.Seq.{take_all}
+use Rattle.floats.specs.Prelude.{◌≡◌, ◌≤◌, ◌-◌, length, take}
 use Rattle.image.specs.Put.{put}
-use Rattle.image.proofs.Put.{put_more}
 use Rattle.image.proofs.pack.put.Given as goal
 
 abbrev pub invariant-loop-i : goal.invariant-loop-i

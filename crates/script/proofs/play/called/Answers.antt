@@ -1,24 +1,6 @@
 -- The definition, by what each call gives and the variant that was matched.
-use Rattle.std.proofs.Common.{rules}
 use Rattle.script.specs.Plays.{called}
-use borrow.Author.Rules.{rules}
 use Rattle.script.proofs.play.called.Goals as goal
-
-pub set_tau_mag-requires : goal.set_tau_mag-requires
-unfolding called
-set_tau_mag-requires c = search rules
-
-pub set_rest_bias_est_enabled-requires : goal.set_rest_bias_est_enabled-requires
-unfolding called
-set_rest_bias_est_enabled-requires c = search rules
-
-pub set_rest_detection_thresholds-requires : goal.set_rest_detection_thresholds-requires
-unfolding called
-set_rest_detection_thresholds-requires c = search rules
-
-pub set_mag_ref-requires : goal.set_mag_ref-requires
-unfolding called
-set_mag_ref-requires c = search rules
 
 pub returns-in-New : goal.returns-in-New
 unfolding called
