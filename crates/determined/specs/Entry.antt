@@ -1,4 +1,4 @@
--- Every public function of `entry`. What a caller learns from such a contract is not spelled out by the toolchain, so each promise is written here and held to the clause of the contract.
+-- Every public function of `entry`. Each promise is written out here, and held to the clause of the contract.
 use Rattle.std.specs.Prelude.{◌≡◌}
 use Rattle.std.specs.Float.{binary64}
 use seplogic.Ra.Ura.{Ura}
@@ -41,11 +41,11 @@ Says T clauses promise =
     → (clauses M 𝓤 𝓛 mem run κs a).ensures g z e ≡ fact 𝓤 (promise κs a z e)
 
 pub record Entry : Type 2 where
-  pub gyr_says : Says gyr.ended (λ M. gyr.clauses) gyr_promise
+  pub gyr_says : Says gyr.ended (λ M 𝓤. gyr.clauses) gyr_promise
   pub feed_gyr : OneResultAndLeft gyr_promise (λ κs e. e.0.now)
-  pub gyr_with_ts_says : Says gyr_with_ts.ended (λ M. gyr_with_ts.clauses) gyr_with_ts_promise
+  pub gyr_with_ts_says : Says gyr_with_ts.ended (λ M 𝓤. gyr_with_ts.clauses) gyr_with_ts_promise
   pub feed_gyr_with_ts : OneResultAndLeft gyr_with_ts_promise (λ κs e. e.0.now)
-  pub acc_says : Says acc.ended (λ M. acc.clauses) acc_promise
+  pub acc_says : Says acc.ended (λ M 𝓤. acc.clauses) acc_promise
   pub feed_acc : OneResultAndLeft acc_promise (λ κs e. e.0.now)
-  pub mag_says : Says mag.ended (λ M. mag.clauses) mag_promise
+  pub mag_says : Says mag.ended (λ M 𝓤. mag.clauses) mag_promise
   pub feed_mag : OneResultAndLeft mag_promise (λ κs e. e.0.now)

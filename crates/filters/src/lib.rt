@@ -1,6 +1,7 @@
 // A second-order low-pass filter: its coefficients, one channel of it, and banks of 2, 3 and 9
 // channels.
 #![tactic(auto)]
+
 pub mod bank;
 pub mod channel;
 pub mod coeffs;

@@ -1,5 +1,5 @@
 -- What the functions of this crate give, for any float. `finite` is `lib.Ieee.Scale`'s: true for what is neither a NaN nor an infinity.
-use Rattle.std.specs.Prelude.{true, false, cond}
+use Rattle.std.specs.Prelude.{false, cond}
 use lib.Ieee.{Float, nan, inf, fin, lt, eq, le}
 
 -- the source's `fabs`: the sign is cleared

@@ -1,5 +1,6 @@
 // A filter as an image of 170 numbers, for callers that cannot name its types.
 #![tactic(auto)]
+
 ghost use Rattle.std.specs.Prelude.{◌≡◌};
 
 use vqf::VQF;

@@ -1,5 +1,6 @@
 // What the reader will take, and what a call answers.
 #![tactic(auto)]
+
 pub mod answer;
 pub mod sample;
 pub mod setting;

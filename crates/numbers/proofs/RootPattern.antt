@@ -1,5 +1,5 @@
 -- The bit pattern of a root (`pattern_root`) and of the number that it is taken of (`read`): what a program's proof cites.
-use Rattle.floats.specs.Prelude.{◌≡◌, refl, sym, ap, ◌∙◌, subst, ◌⊎◌, inl, inr, Bool, false, not, ℕ, zero, suc, ◌+◌, ◌-◌, ◌*◌, ◌/◌, ◌^◌, ◌≤◌, ◌<◌, le-div_iff_mul-le, zero-add, le-add_right, pow-succ', zero-mul, le_refl, le_trans, le_of_eq, lt_of_lt_of_le, lt_of_le_of_lt, lt_irrefl, le_antisymm, eq-or-lt_of_le, zero-lt-suc, mul_assoc, mul-le-mul_right, lt_of_mul-lt-mul_right, mul-div_cancel, pow-suc, arith, ℤ, T, pow-add, pow_pos, pow_mono, pow-lt, shl_lt, Float, fin, Format, prec, emax, low, size, odd, fits, to_bits, of_bits, nan_bits, is_nan, hid, top, back, size-le, size_reaches, kept-lt, reach, two, two-le_pos}
+use Rattle.floats.specs.Prelude.{◌≡◌, refl, sym, ap, ◌∙◌, subst, ◌⊎◌, inl, inr, Bool, false, not, ℕ, zero, suc, ◌+◌, ◌-◌, ◌*◌, ◌/◌, ◌^◌, ◌≤◌, ◌<◌, le-div_iff_mul-le, zero-add, le-add_right, pow-succ', zero-mul, le_refl, le_trans, le_of_eq, lt_of_lt_of_le, lt_of_le_of_lt, lt_irrefl, le_antisymm, eq-or-lt_of_le, zero-lt-suc, mul_assoc, mul-le-mul_right, lt_of_mul-lt-mul_right, mul-div_cancel, pow-suc, arith, ℤ, T, pow-add, pow_pos, pow_mono, pow-lt, shl_lt, Float, fin, Format, prec, emax, low, size, odd, fits, to_bits, of_bits, nan_bits, is_nan, hid, back, size-le, size_reaches, kept-lt, reach, two, two-le_pos}
 use lib.Ieee.Bits.{nan_bits_is}
 use Rattle.numbers.specs.Root.{count, Closest, root_of, root}
 use Rattle.numbers.proofs.RootWhole.{count_odd, size_gt, root_of_by, closest_ge, closest_le}

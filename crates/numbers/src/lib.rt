@@ -1,5 +1,6 @@
 // Roots, angles and the exponential, each a fixed order of binary64 operations.
 #![tactic(auto)]
+
 ghost use Rattle.std.specs.Prelude.{◌≡◌};
 ghost use Rattle.std.specs.Float.{nan};
 

@@ -1,5 +1,6 @@
 // Angles as a person reads them.
 #![tactic(auto)]
+
 ghost use Rattle.std.specs.Prelude.{◌≡◌};
 ghost use Rattle.std.specs.Float.{binary64};
 ghost use Rattle.readable.specs.Angles.{degrees, tilt, heading, signed, to_tenths};

@@ -10,8 +10,7 @@ use crate::put::{put_bias, put_flag, put_four, put_one, put_settings, put_two};
 use image::SIZE;
 
 // The gyroscope alone: w, x, y, z.
-#[unsafe(no_mangle)]
-pub extern "C" fn sambighjone_quat_3d(image: &[f64], out: &mut [f64]) -> u32
+pub fn sambighjone_quat_3d(image: &[f64], out: &mut [f64]) -> u32
     ensures { told result out.new ≡ asked (λ f. four (quat_3d f)) image.now out.old }
 {
     if image.len() != SIZE {
@@ -22,8 +21,7 @@ pub extern "C" fn sambighjone_quat_3d(image: &[f64], out: &mut [f64]) -> u32
 }
 
 // The tilt: w, x, y, z.
-#[unsafe(no_mangle)]
-pub extern "C" fn sambighjone_quat_6d(image: &[f64], out: &mut [f64]) -> u32
+pub fn sambighjone_quat_6d(image: &[f64], out: &mut [f64]) -> u32
     ensures { told result out.new ≡ asked (λ f. four (quat_6d binary64 f)) image.now out.old }
 {
     if image.len() != SIZE {
@@ -34,8 +32,7 @@ pub extern "C" fn sambighjone_quat_6d(image: &[f64], out: &mut [f64]) -> u32
 }
 
 // Tilt and heading: w, x, y, z.
-#[unsafe(no_mangle)]
-pub extern "C" fn sambighjone_quat_9d(image: &[f64], out: &mut [f64]) -> u32
+pub fn sambighjone_quat_9d(image: &[f64], out: &mut [f64]) -> u32
     ensures { told result out.new ≡ asked (λ f. four (quat_9d binary64 f)) image.now out.old }
 {
     if image.len() != SIZE {
@@ -46,8 +43,7 @@ pub extern "C" fn sambighjone_quat_9d(image: &[f64], out: &mut [f64]) -> u32
 }
 
 // The heading against the tilt's own.
-#[unsafe(no_mangle)]
-pub extern "C" fn sambighjone_delta(image: &[f64], out: &mut [f64]) -> u32
+pub fn sambighjone_delta(image: &[f64], out: &mut [f64]) -> u32
     ensures { told result out.new ≡ asked (λ f. delta f ∷ []) image.now out.old }
 {
     if image.len() != SIZE {
@@ -58,8 +54,7 @@ pub extern "C" fn sambighjone_delta(image: &[f64], out: &mut [f64]) -> u32
 }
 
 // The gyroscope's bias, and how sure it is.
-#[unsafe(no_mangle)]
-pub extern "C" fn sambighjone_bias(image: &[f64], out: &mut [f64]) -> u32
+pub fn sambighjone_bias(image: &[f64], out: &mut [f64]) -> u32
     ensures { told result out.new ≡ asked (λ f. bias_and_sigma (bias_estimate binary64 f)) image.now out.old }
 {
     if image.len() != SIZE {
@@ -70,8 +65,7 @@ pub extern "C" fn sambighjone_bias(image: &[f64], out: &mut [f64]) -> u32
 }
 
 // The magnetic reference: norm and dip.
-#[unsafe(no_mangle)]
-pub extern "C" fn sambighjone_mag_ref(image: &[f64], out: &mut [f64]) -> u32
+pub fn sambighjone_mag_ref(image: &[f64], out: &mut [f64]) -> u32
     ensures { told result out.new ≡ asked mag_ref image.now out.old }
 {
     if image.len() != SIZE {
@@ -82,8 +76,7 @@ pub extern "C" fn sambighjone_mag_ref(image: &[f64], out: &mut [f64]) -> u32
 }
 
 // How far from rest: gyroscope and accelerometer.
-#[unsafe(no_mangle)]
-pub extern "C" fn sambighjone_relative_rest_deviations(image: &[f64], out: &mut [f64]) -> u32
+pub fn sambighjone_relative_rest_deviations(image: &[f64], out: &mut [f64]) -> u32
     ensures { told result out.new ≡ asked (λ f. both (relative_rest_deviations binary64 f)) image.now out.old }
 {
     if image.len() != SIZE {
@@ -95,8 +88,7 @@ pub extern "C" fn sambighjone_relative_rest_deviations(image: &[f64], out: &mut 
 }
 
 // The settings, in the order in which an image has them.
-#[unsafe(no_mangle)]
-pub extern "C" fn sambighjone_settings(image: &[f64], out: &mut [f64]) -> u32
+pub fn sambighjone_settings(image: &[f64], out: &mut [f64]) -> u32
     ensures { told result out.new ≡ asked (λ f. settings (params f)) image.now out.old }
 {
     if image.len() != SIZE {
@@ -107,8 +99,7 @@ pub extern "C" fn sambighjone_settings(image: &[f64], out: &mut [f64]) -> u32
 }
 
 // Whether the sensor rests: 0 or 1.
-#[unsafe(no_mangle)]
-pub extern "C" fn sambighjone_rest(image: &[f64], out: &mut [u32]) -> u32
+pub fn sambighjone_rest(image: &[f64], out: &mut [u32]) -> u32
     ensures { told result out.new ≡ asked (λ f. yes_or_no (rest_detected f) ∷ []) image.now out.old }
 {
     if image.len() != SIZE {
@@ -119,8 +110,7 @@ pub extern "C" fn sambighjone_rest(image: &[f64], out: &mut [u32]) -> u32
 }
 
 // Whether the magnetic field is disturbed: 0 or 1.
-#[unsafe(no_mangle)]
-pub extern "C" fn sambighjone_disturbed(image: &[f64], out: &mut [u32]) -> u32
+pub fn sambighjone_disturbed(image: &[f64], out: &mut [u32]) -> u32
     ensures { told result out.new ≡ asked (λ f. yes_or_no (mag_dist_detected f) ∷ []) image.now out.old }
 {
     if image.len() != SIZE {

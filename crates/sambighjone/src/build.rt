@@ -13,8 +13,7 @@ use limits::Answer;
 use vqf::{Interval, Settings, Updated, VQF};
 
 // The house filter.
-#[unsafe(no_mangle)]
-pub extern "C" fn sambighjone_fresh(image: &mut [f64]) -> u32
+pub fn sambighjone_fresh(image: &mut [f64]) -> u32
     ensures { told result image.new ≡ fed (λ f. told 0 (fresh binary64)) image.old }
 {
     let u = fresh(Answer::Done);
@@ -60,8 +59,7 @@ fn constructed(gyr_ts: f64, acc_ts: f64, mag_ts: f64, settings: &[f64]) -> Updat
 }
 
 // A filter with intervals and settings of its own.
-#[unsafe(no_mangle)]
-pub extern "C" fn sambighjone_build(
+pub fn sambighjone_build(
     image: &mut [f64],
     gyr_ts: f64,
     acc_ts: f64,

@@ -10,8 +10,7 @@ use crate::kept::keep;
 use algebra::Vector;
 
 // One gyroscope sample.
-#[unsafe(no_mangle)]
-pub extern "C" fn sambighjone_feed_gyr(image: &mut [f64], x: f64, y: f64, z: f64) -> u32
+pub fn sambighjone_feed_gyr(image: &mut [f64], x: f64, y: f64, z: f64) -> u32
     ensures { told result image.new ≡ fed (λ f. update_gyr binary64 f (vector x y z)) image.old }
 {
     let f = image::unpack::unpack(image);
@@ -20,8 +19,7 @@ pub extern "C" fn sambighjone_feed_gyr(image: &mut [f64], x: f64, y: f64, z: f64
 }
 
 // One gyroscope sample, with the time since the one before.
-#[unsafe(no_mangle)]
-pub extern "C" fn sambighjone_feed_gyr_with_ts(
+pub fn sambighjone_feed_gyr_with_ts(
     image: &mut [f64],
     x: f64,
     y: f64,
@@ -36,8 +34,7 @@ pub extern "C" fn sambighjone_feed_gyr_with_ts(
 }
 
 // One accelerometer sample.
-#[unsafe(no_mangle)]
-pub extern "C" fn sambighjone_feed_acc(image: &mut [f64], x: f64, y: f64, z: f64) -> u32
+pub fn sambighjone_feed_acc(image: &mut [f64], x: f64, y: f64, z: f64) -> u32
     ensures { told result image.new ≡ fed (λ f. update_acc binary64 f (vector x y z)) image.old }
 {
     let f = image::unpack::unpack(image);
@@ -46,8 +43,7 @@ pub extern "C" fn sambighjone_feed_acc(image: &mut [f64], x: f64, y: f64, z: f64
 }
 
 // One magnetometer sample.
-#[unsafe(no_mangle)]
-pub extern "C" fn sambighjone_feed_mag(image: &mut [f64], x: f64, y: f64, z: f64) -> u32
+pub fn sambighjone_feed_mag(image: &mut [f64], x: f64, y: f64, z: f64) -> u32
     ensures { told result image.new ≡ fed (λ f. update_mag binary64 f (vector x y z)) image.old }
 {
     let f = image::unpack::unpack(image);

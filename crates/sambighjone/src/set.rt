@@ -12,8 +12,7 @@ use algebra::Vector;
 use inertial::setters::Sigma;
 
 // How slowly the tilt follows the accelerometer, in seconds.
-#[unsafe(no_mangle)]
-pub extern "C" fn sambighjone_set_tau_acc(image: &mut [f64], tau: f64) -> u32
+pub fn sambighjone_set_tau_acc(image: &mut [f64], tau: f64) -> u32
     ensures { told result image.new ≡ fed (λ f. set_tau_acc binary64 f tau) image.old }
 {
     let f = image::unpack::unpack(image);
@@ -22,8 +21,7 @@ pub extern "C" fn sambighjone_set_tau_acc(image: &mut [f64], tau: f64) -> u32
 }
 
 // How slowly the heading follows the magnetometer, in seconds; 0: at once; below 0: not, but for the first sample.
-#[unsafe(no_mangle)]
-pub extern "C" fn sambighjone_set_tau_mag(image: &mut [f64], tau: f64) -> u32
+pub fn sambighjone_set_tau_mag(image: &mut [f64], tau: f64) -> u32
     ensures { told result image.new ≡ fed (λ f. set_tau_mag binary64 f tau) image.old }
 {
     let f = image::unpack::unpack(image);
@@ -32,8 +30,7 @@ pub extern "C" fn sambighjone_set_tau_mag(image: &mut [f64], tau: f64) -> u32
 }
 
 // Whether the bias is estimated in motion: 0 for no.
-#[unsafe(no_mangle)]
-pub extern "C" fn sambighjone_set_motion_bias_est_enabled(image: &mut [f64], on: u32) -> u32
+pub fn sambighjone_set_motion_bias_est_enabled(image: &mut [f64], on: u32) -> u32
     ensures { told result image.new ≡ switched set_motion_bias_est_enabled on image.old }
 {
     if on > 1 {
@@ -45,8 +42,7 @@ pub extern "C" fn sambighjone_set_motion_bias_est_enabled(image: &mut [f64], on:
 }
 
 // Whether rest is detected, and the bias estimated there: 0 for no.
-#[unsafe(no_mangle)]
-pub extern "C" fn sambighjone_set_rest_bias_est_enabled(image: &mut [f64], on: u32) -> u32
+pub fn sambighjone_set_rest_bias_est_enabled(image: &mut [f64], on: u32) -> u32
     ensures { told result image.new ≡ switched (set_rest_bias_est_enabled binary64) on image.old }
 {
     if on > 1 {
@@ -58,8 +54,7 @@ pub extern "C" fn sambighjone_set_rest_bias_est_enabled(image: &mut [f64], on: u
 }
 
 // Whether a disturbed field is noticed and kept from the heading: 0 for no.
-#[unsafe(no_mangle)]
-pub extern "C" fn sambighjone_set_mag_dist_rejection_enabled(image: &mut [f64], on: u32) -> u32
+pub fn sambighjone_set_mag_dist_rejection_enabled(image: &mut [f64], on: u32) -> u32
     ensures { told result image.new ≡ switched (set_mag_dist_rejection_enabled binary64) on image.old }
 {
     if on > 1 {
@@ -71,8 +66,7 @@ pub extern "C" fn sambighjone_set_mag_dist_rejection_enabled(image: &mut [f64], 
 }
 
 // The deviations from which a sample is not quiet: in °/s and in m/s².
-#[unsafe(no_mangle)]
-pub extern "C" fn sambighjone_set_rest_detection_thresholds(
+pub fn sambighjone_set_rest_detection_thresholds(
     image: &mut [f64],
     th_gyr: f64,
     th_acc: f64,
@@ -85,8 +79,7 @@ pub extern "C" fn sambighjone_set_rest_detection_thresholds(
 }
 
 // The bias, its uncertainty as it is.
-#[unsafe(no_mangle)]
-pub extern "C" fn sambighjone_set_bias_estimate(image: &mut [f64], x: f64, y: f64, z: f64) -> u32
+pub fn sambighjone_set_bias_estimate(image: &mut [f64], x: f64, y: f64, z: f64) -> u32
     ensures { told result image.new ≡ fed (λ f. set_bias_estimate binary64 f (vector x y z) Absent) image.old }
 {
     let f = image::unpack::unpack(image);
@@ -95,8 +88,7 @@ pub extern "C" fn sambighjone_set_bias_estimate(image: &mut [f64], x: f64, y: f6
 }
 
 // The gyro bias and its standard deviation, both in rad/s.
-#[unsafe(no_mangle)]
-pub extern "C" fn sambighjone_set_bias_estimate_with_sigma(
+pub fn sambighjone_set_bias_estimate_with_sigma(
     image: &mut [f64],
     x: f64,
     y: f64,
@@ -111,8 +103,7 @@ pub extern "C" fn sambighjone_set_bias_estimate_with_sigma(
 }
 
 // The reference: its norm in the magnetometer's unit, its dip in radians.
-#[unsafe(no_mangle)]
-pub extern "C" fn sambighjone_set_mag_ref(image: &mut [f64], norm: f64, dip: f64) -> u32
+pub fn sambighjone_set_mag_ref(image: &mut [f64], norm: f64, dip: f64) -> u32
     ensures { told result image.new ≡ fed (λ f. set_mag_ref binary64 f norm dip) image.old }
 {
     let f = image::unpack::unpack(image);
@@ -121,8 +112,7 @@ pub extern "C" fn sambighjone_set_mag_ref(image: &mut [f64], norm: f64, dip: f64
 }
 
 // A fresh state; the settings stay.
-#[unsafe(no_mangle)]
-pub extern "C" fn sambighjone_reset_state(image: &mut [f64]) -> u32
+pub fn sambighjone_reset_state(image: &mut [f64]) -> u32
     ensures { told result image.new ≡ fed (λ f. reset_state binary64 f) image.old }
 {
     let f = image::unpack::unpack(image);

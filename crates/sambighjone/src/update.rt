@@ -79,8 +79,7 @@ fn put_answers(out: &mut [u32], gyr: Answer, acc: Answer, mag: Answer) -> u32
 }
 
 // The gyroscope's and the accelerometer's three numbers, and the magnetometer's or none.
-#[unsafe(no_mangle)]
-pub extern "C" fn sambighjone_update(image: &mut [f64], samples: &[f64], answers: &mut [u32]) -> u32
+pub fn sambighjone_update(image: &mut [f64], samples: &[f64], answers: &mut [u32]) -> u32
     ensures { told result (image.new, answers.new) ≡ updated samples.now image.old answers.old }
 {
     if image.len() != SIZE {

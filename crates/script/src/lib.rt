@@ -1,5 +1,6 @@
 // Call scripts: what a line of one asks for, and what a call of one does.
 #![tactic(auto)]
+
 pub mod line;
 mod names;
 pub mod play;

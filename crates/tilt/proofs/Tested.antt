@@ -1,7 +1,6 @@
 -- Rest and the quaternion are tested exactly for the numbers that are stored of them; all else is kept. So, where what was there is finite, the test says
 -- whether what comes is.
 use Rattle.floats.specs.Prelude.{true, ◌||◌, T, Float, Format, of_bits, sub, lt}
-use lib.Ieee.Scale as scale
 use Rattle.floats.specs.Notation.{zero}
 use Rattle.floats.specs.Tests.{both, keeps}
 use Rattle.floats.specs.Order.{each_finite}

@@ -1,6 +1,7 @@
 // Tilt and rest, for any engine: the gyro step, what an accelerometer step does to rest and inclination, and what setters and answers
 // do with these two groups. Of the gyro bias nothing is known here but the estimate that a gyro step is lent.
 #![tactic(auto)]
+
 pub mod acc;
 pub mod angle;
 pub mod asked;

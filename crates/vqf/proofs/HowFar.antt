@@ -1,6 +1,6 @@
 -- Both halves of a filter that is reached were reached by calls that keep their bounds (BiasHeld and CountsHeld of `inertial`, HowFar of `magnetic`).
 use Rattle.floats.specs.Prelude.{◌≡◌, ap, ◌∙◌, List, Float, Format}
-use Rattle.floats.specs.Tests.{both, keeps}
+use Rattle.floats.specs.Tests.{keeps}
 use Rattle.limits.specs.Answers.{Told}
 use Rattle.inertial.specs.declared.types.Inertial.{Inertial}
 use Rattle.inertial.specs.Setup as inertial

@@ -1,6 +1,6 @@
 -- What the calls leave of the inertial half, and what they answer there, is what the inertial half itself leaves and answers: a call on it is given
 -- the inertial half alone, and a magnetic call gives it back.
-use Rattle.floats.specs.Prelude.{◌≡◌, refl, sym, ap, ap₂, ◌∙◌, Bool, true, false, cond, Bool_beq, List, [], ◌∷◌, ◌++◌, append_assoc, ℕ, arith, T, take, Float, Format}
+use Rattle.floats.specs.Prelude.{◌≡◌, refl, sym, ap, ap₂, ◌∙◌, Bool, true, false, cond, Bool_beq, List, [], ◌∷◌, ◌++◌, append_assoc, arith, T, take, Float, Format}
 use Rattle.floats.specs.Tests.{keeps}
 use Rattle.limits.specs.Answers.{Told}
 use Rattle.inertial.specs.Calls as inertial

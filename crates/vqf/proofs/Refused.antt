@@ -1,6 +1,6 @@
 -- A refused call on one half leaves that half as it was (`kept` of `inertial` and `magnetic`), and it is put back beside the other. What acts on both halves
 -- is never refused.
-use Rattle.floats.specs.Prelude.{◌≡◌, refl, ◌∙◌, Bool, Bool_beq, Format}
+use Rattle.floats.specs.Prelude.{refl, ◌∙◌, Bool, Bool_beq, Format}
 use Rattle.floats.specs.Tests.{keeps}
 use Rattle.algebra.specs.declared.vector.Vector.{Vector}
 use Rattle.limits.specs.Answers.{Told, Kept}

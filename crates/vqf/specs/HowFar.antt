@@ -1,7 +1,7 @@
 -- How far heading and bias can go: what holds after any calls on a filter that was built, setters and refused calls among them, over the format w.
 use Rattle.std.specs.Prelude.{◌≡◌, List, T, Float}
 use Rattle.std.specs.Float.{Format}
-use Rattle.std.specs.Float.Ieee.{neg, le, fits}
+use Rattle.std.specs.Float.Ieee.{le, fits}
 use Rattle.floats.specs.Notation.{rounded, zero}
 use Rattle.floats.specs.Order.{Within}
 use Rattle.algebra.specs.declared.vector.Vector.{Vector}

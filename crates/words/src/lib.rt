@@ -1,5 +1,6 @@
 // Words of a text, read a byte at a time: the numbers among them by their bits or as decimals.
 #![tactic(auto)]
+
 mod decimal;
 pub mod word;
 

@@ -1,9 +1,7 @@
 -- After i turns the first i channels are adapted.
 use Rattle.std.proofs.Common.{rules}
-use Rattle.floats.specs.Prelude.{◌-◌}
-use Rattle.filters.specs.Channels.{filter_adapt_state_for_coeff_change}
-use Rattle.filters.specs.Banks.{sample, channel, adapted, adapt2}
-use Rattle.filters.proofs.Fill.{Filling, filling_none, filling_more, filling_done}
+use Rattle.filters.specs.Banks.{adapted, adapt2}
+use Rattle.filters.proofs.Fill.{filling_none, filling_more, filling_done}
 use Rattle.filters.proofs.bank.adapt2.Goals as goal
 
 pub loop-i-init : goal.loop-i-init

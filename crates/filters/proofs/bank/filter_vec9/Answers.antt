@@ -1,8 +1,7 @@
 -- After i turns the first i answers and channels are the definition's.
 use Rattle.std.proofs.Common.{rules}
-use Rattle.floats.specs.Prelude.{◌-◌, binary64}
-use Rattle.filters.specs.Banks.{filtered, outputs, channels, filter_vec9}
-use Rattle.filters.proofs.Fill.{Filtering, filtering_none, filtering_more, filtering_done}
+use Rattle.filters.specs.Banks.{outputs, channels, filter_vec9}
+use Rattle.filters.proofs.Fill.{filtering_none, filtering_more, filtering_done}
 use Rattle.filters.proofs.bank.filter_vec9.Goals as goal
 
 pub loop-i-init : goal.loop-i-init

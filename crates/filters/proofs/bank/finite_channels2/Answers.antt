@@ -1,8 +1,6 @@
 -- After i turns the flag says whether the first i channels are finite.
-use Rattle.floats.specs.Prelude.{◌-◌}
-use Rattle.filters.specs.Channels.{finite_channel}
-use Rattle.filters.specs.Banks.{channel, finite_channels}
-use Rattle.filters.proofs.Fill.{Checking, checking_none, checking_more, checking_done}
+use Rattle.filters.specs.Banks.{finite_channels}
+use Rattle.filters.proofs.Fill.{checking_none, checking_more, checking_done}
 use Rattle.filters.proofs.bank.finite_channels2.Goals as goal
 
 pub loop-i-init : goal.loop-i-init

@@ -1,8 +1,8 @@
 -- After i turns the flag says whether the first i channels are finite.
 use Rattle.floats.specs.Prelude.{◌-◌}
 use Rattle.filters.specs.Channels.{finite_channel}
-use Rattle.filters.specs.Banks.{channel, finite_channels}
-use Rattle.filters.proofs.Fill.{Checking, checking_none, checking_more, checking_done}
+use Rattle.filters.specs.Banks.{channel}
+use Rattle.filters.proofs.Fill.{Checking}
 use Rattle.filters.proofs.bank.finite_channels9.Given as goal
 
 abbrev pub invariant-loop-i : goal.invariant-loop-i

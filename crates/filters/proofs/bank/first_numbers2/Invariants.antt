@@ -1,9 +1,8 @@
 -- After i turns the first i numbers are the channels' first.
-use Rattle.std.proofs.Common.{rules}
 use Rattle.floats.specs.Prelude.{◌-◌}
 use Rattle.filters.specs.Channels.{first_number}
-use Rattle.filters.specs.Banks.{channel, first_numbers}
-use Rattle.filters.proofs.Fill.{Filling, filling_none, filling_more, filling_done}
+use Rattle.filters.specs.Banks.{channel}
+use Rattle.filters.proofs.Fill.{Filling}
 use Rattle.filters.proofs.bank.first_numbers2.Given as goal
 
 abbrev pub invariant-loop-i : goal.invariant-loop-i

@@ -1,9 +1,7 @@
 -- After i turns the first i numbers are the channels' first.
 use Rattle.std.proofs.Common.{rules}
-use Rattle.floats.specs.Prelude.{◌-◌}
-use Rattle.filters.specs.Channels.{first_number}
-use Rattle.filters.specs.Banks.{channel, first_numbers}
-use Rattle.filters.proofs.Fill.{Filling, filling_none, filling_more, filling_done}
+use Rattle.filters.specs.Banks.{first_numbers}
+use Rattle.filters.proofs.Fill.{filling_none, filling_more, filling_done}
 use Rattle.filters.proofs.bank.first_numbers9.Goals as goal
 
 pub loop-i-init : goal.loop-i-init

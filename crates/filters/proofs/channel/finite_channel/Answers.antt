@@ -1,6 +1,5 @@
 -- By what the calls ensure and the tests on the way.
 use Rattle.filters.specs.Channels.{finite_channel}
-use borrow.Author.Rules.{rules}
 use Rattle.filters.proofs.channel.finite_channel.Goals as goal
 
 pub returns-in-Averaging : goal.returns-in-Averaging

@@ -1,12 +1,6 @@
 -- The definition, by what each call gives and the tests that led here.
-use Rattle.std.proofs.Common.{rules}
-use borrow.Author.Rules.{rules}
 use Rattle.inertial.specs.Kalman.{bias_step}
 use Rattle.inertial.proofs.kalman.bias_step.Goals as goal
-
-pub times-requires : goal.times-requires
-unfolding bias_step
-times-requires c = search rules
 
 pub returns-then-params : goal.returns-then-params
 unfolding bias_step

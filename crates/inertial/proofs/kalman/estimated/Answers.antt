@@ -1,6 +1,5 @@
 -- The definition, by what each call gives, the tests that led here and the variant that was matched.
 use Rattle.inertial.specs.Kalman.{estimated}
-use borrow.Author.Rules.{rules}
 use Rattle.inertial.proofs.kalman.estimated.Goals as goal
 
 pub returns-in-TooSmall : goal.returns-in-TooSmall

@@ -1,6 +1,5 @@
 -- The definition, by what each call gives and the variant that was matched.
 use Rattle.inertial.specs.Kalman.{updated_bias}
-use borrow.Author.Rules.{rules}
 use Rattle.inertial.proofs.kalman.updated_bias.Goals as goal
 
 pub returns-in-TooSmall : goal.returns-in-TooSmall

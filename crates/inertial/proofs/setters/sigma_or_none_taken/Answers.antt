@@ -1,6 +1,5 @@
 -- The definition, by what each call gives and the variant that was matched.
 use Rattle.inertial.specs.Setters.{sigma_or_none_taken}
-use borrow.Author.Rules.{rules}
 use Rattle.inertial.proofs.setters.sigma_or_none_taken.Goals as goal
 
 pub returns-in-Absent : goal.returns-in-Absent

@@ -1,6 +1,5 @@
 -- The definition, by what each call gives and the variant that was matched.
 use Rattle.inertial.specs.Setters.{with_estimate}
-use borrow.Author.Rules.{rules}
 use Rattle.inertial.proofs.setters.with_estimate.Goals as goal
 
 pub returns-in-Absent : goal.returns-in-Absent

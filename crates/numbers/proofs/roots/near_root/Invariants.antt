@@ -1,6 +1,5 @@
 -- `numbers::near_root` meets its contract. The first loop leaves q with (q - 1) * (q - 1) + (q - 1) below c * 2 ^ 52, which the second loop keeps.
-use Rattle.floats.specs.Prelude.{ltb-true, ltb-false, not-true, not-false, sym, ◌∙◌, ◌+◌, ◌-◌, ◌*◌, ◌^◌, ◌≤◌, ◌<◌, arith}
-use Rattle.numbers.proofs.Climb.{still, low_enough, up_one, bounded}
+use Rattle.floats.specs.Prelude.{◌+◌, ◌-◌, ◌*◌, ◌^◌, ◌≤◌, ◌<◌}
 use Rattle.numbers.proofs.roots.near_root.Given as goal
 
 abbrev pub invariant-loop-q : goal.invariant-loop-q

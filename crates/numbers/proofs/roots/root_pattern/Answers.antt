@@ -5,8 +5,6 @@ use Rattle.numbers.specs.Root.{root_of, Closest}
 use Rattle.numbers.proofs.Normal.{doubled, large, shifted, c_ge, c_lt, k_shifted, answer, q_small, bit_lt, sum_lt}
 use Rattle.numbers.proofs.roots.root_pattern.Goals as goal
 
-
-
 closest : (c : goal.After-near_root) → Closest (c.loop-m.m * 2 ^ (c.loop-m.e % 2) * 2 ^ 52) c.near_root.result
 closest c = subst (λ (z : ℕ). Closest (z * 2 ^ 52) c.near_root.result) (shifted c.loop-m.m c.loop-m.e c.loop-m.invariant.2) c.near_root.ensures
 

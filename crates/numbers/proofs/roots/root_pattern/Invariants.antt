@@ -1,8 +1,5 @@
 -- `numbers::root_pattern` meets its contract.
-use Rattle.floats.specs.Prelude.{◌≡◌, refl, sym, subst, not, ℕ, ◌+◌, ◌-◌, ◌*◌, ◌/◌, ◌%◌, ◌^◌, ◌≤◌, ◌<◌, arith, le_trans, T, lit≤, binary64, of_bits, nan_bits}
-use Rattle.std.proofs.Common.{w64, Fits}
-use Rattle.numbers.specs.Root.{root_of, Closest}
-use Rattle.numbers.proofs.Normal.{doubled, large, shifted, c_ge, c_lt, k_shifted, answer, q_small, bit_lt, sum_lt}
+use Rattle.floats.specs.Prelude.{◌≡◌, ◌-◌, ◌*◌, ◌^◌, ◌<◌}
 use Rattle.numbers.proofs.roots.root_pattern.Given as goal
 
 abbrev pub invariant-loop-m : goal.invariant-loop-m

@@ -1,9 +1,9 @@
 -- `numbers::sqrt` meets its contract.
-use Rattle.floats.specs.Prelude.{sym, ◌∙◌, subst, ℕ, ◌+◌, ◌/◌, ◌≤◌, ◌<◌, arith, T, bit_and, mask_lt, binary64, fits, to_bits}
+use Rattle.floats.specs.Prelude.{sym, ◌∙◌, subst, ℕ, ◌+◌, ◌/◌, ◌≤◌, ◌<◌, arith, T, bit_and, mask_lt, binary64, to_bits}
 use Rattle.numbers.proofs.Beside.{Pattern, beside}
 use Rattle.numbers.proofs.Floats.{above_no_nan, parse, zero_root, no_root}
 use Rattle.numbers.proofs.Halves.{joined}
-use Rattle.numbers.proofs.Parsed.{Parsed, low, high, top}
+use Rattle.numbers.proofs.Parsed.{low, high, top}
 use Rattle.numbers.proofs.roots.sqrt.Goals as goal
 
 -- what the tests say of an x next to 1

@@ -1,12 +1,6 @@
 -- The definition, by what each call gives and the tests that led here.
-use Rattle.std.proofs.Common.{rules}
 use Rattle.tilt.specs.Acc.{acc_rest}
-use borrow.Author.Rules.{rules}
 use Rattle.tilt.proofs.acc.acc_rest.Goals as goal
-
-pub counted-q-requires : goal.counted-q-requires
-unfolding acc_rest
-counted-q-requires c = search rules
 
 pub returns-then-deviations-p : goal.returns-then-deviations-p
 unfolding acc_rest

@@ -1,11 +1,6 @@
 -- Digits and power are floats exactly, so their quotient is rounded once.
-use Rattle.std.proofs.Common.{rules}
 use Rattle.words.proofs.Exact.{over_ten}
-use Rattle.std.proofs.Common.{rules}
 use Rattle.words.proofs.decimal.over.Goals as goal
-
-pub ten_to-requires : goal.ten_to-requires
-ten_to-requires c = search rules
 
 pub returns : goal.returns
 returns c = simp (c.ten_to.ensures, c.nearest_u64_to_f64.ensures) (over_ten _ _ c.requires.digits_bound c.requires.k_bound)

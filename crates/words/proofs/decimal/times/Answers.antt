@@ -1,11 +1,6 @@
 -- Digits and power are floats exactly, so their product is rounded once.
-use Rattle.std.proofs.Common.{rules}
 use Rattle.words.proofs.Exact.{times_ten}
-use Rattle.std.proofs.Common.{rules}
 use Rattle.words.proofs.decimal.times.Goals as goal
-
-pub ten_to-requires : goal.ten_to-requires
-ten_to-requires c = search rules
 
 pub returns : goal.returns
 returns c = simp (c.ten_to.ensures, c.nearest_u64_to_f64.ensures) (times_ten _ _ c.requires.digits_bound c.requires.k_bound)

@@ -1,6 +1,5 @@
 -- The definition, by what each call gives and the variant that was matched.
 use Rattle.vqf.specs.Update.{update_sample}
-use borrow.Author.Rules.{rules}
 use Rattle.vqf.proofs.types.VQF.update_sample.Goals as goal
 
 pub returns-in-Absent : goal.returns-in-Absent

@@ -1,0 +1,11 @@
+-- By the branch taken.
+use Rattle.image.specs.Marks.{flag}
+use Rattle.image.proofs.marks.flag.Goals as goal
+
+pub returns-then-b : goal.returns-then-b
+unfolding flag
+returns-then-b c = simp c.if-b.true
+
+pub returns-else-b : goal.returns-else-b
+unfolding flag
+returns-else-b c = simp c.if-b.false

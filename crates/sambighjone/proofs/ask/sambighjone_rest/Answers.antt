@@ -1,0 +1,11 @@
+-- The call by value, on what is read of the image.
+use Rattle.floats.specs.Prelude.{eq-eqb, ne_eqb, ap, Bool, [], ◌∷◌}
+use Rattle.sambighjone.specs.Calls.{yes_or_no}
+use Rattle.sambighjone.proofs.Laws.{asked_done, asked_refused}
+use Rattle.sambighjone.proofs.ask.sambighjone_rest.Goals as goal
+
+pub returns-then-image-ne-SIZE : goal.returns-then-image-ne-SIZE
+returns-then-image-ne-SIZE c = asked_refused _ _ _ (ne_eqb _ _ c.if-image-ne-SIZE.true)
+
+pub returns : goal.returns
+returns c = asked_done _ _ _ c.unpack-f.result _ _ (eq-eqb _ _ c.if-image-ne-SIZE.false) c.unpack-f.ensures (ap (λ (b : Bool). yes_or_no b ∷ []) c.rest_detected.ensures) c.put_flag.ensures

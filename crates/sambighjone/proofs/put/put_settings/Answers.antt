@@ -1,0 +1,6 @@
+-- The settings, as a list of numbers.
+use borrow.Author.Rules.{rules}
+use Rattle.sambighjone.proofs.put.put_settings.Goals as goal
+
+pub returns : goal.returns
+returns c = simp c.settings-numbers.ensures at c.put.ensures

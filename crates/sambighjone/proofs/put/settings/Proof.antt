@@ -1,9 +1,0 @@
--- Number by number.
-use Rattle.image.specs.Pack.{inertial_params, magnetic_params, all_params}
-use Rattle.sambighjone.proofs.put.settings as this
-
-pub settings_spec : {M : Type 1} → this.Statement.statement M
-unfolding inertial_params magnetic_params all_params
-settings_spec = let met = this.Tie.spec
-    (λ c κs. tt) (λ c κs. tt) (λ c κs. tt)
-    (λ c. simp (c.flag3.ensures, c.before.flag2.ensures, c.before.before.flag.ensures)) in this.Tie.close met

@@ -1,0 +1,98 @@
+// The setters, and the reset.
+ghost use Rattle.std.specs.Prelude.{◌≡◌};
+ghost use Rattle.std.specs.Float.{binary64};
+ghost use Rattle.algebra.specs.Vectors.{vector};
+ghost use Rattle.inertial.specs.declared.setters.Sigma.TheVariants.{Absent, Given};
+ghost use Rattle.limits.specs.Answers.{told};
+ghost use Rattle.vqf.specs.Setters.{set_tau_acc, set_tau_mag, set_motion_bias_est_enabled, set_rest_bias_est_enabled, set_mag_dist_rejection_enabled, set_rest_detection_thresholds, set_bias_estimate, set_mag_ref, reset_state};
+ghost use Rattle.sambighjone.specs.Calls.{fed, switched};
+
+// How slowly the tilt follows the accelerometer, in seconds.
+#[unsafe(no_mangle)]
+pub extern "C" fn sambighjone_set_tau_acc(image: &mut [f64], tau: f64) -> u32
+    ensures { told result image.new ≡ fed (λ f. set_tau_acc binary64 f tau) image.old }
+{
+    sambighjone::set::sambighjone_set_tau_acc(image, tau)
+}
+
+// How slowly the heading follows the magnetometer, in seconds; 0: at once; below 0: not, but for the first sample.
+#[unsafe(no_mangle)]
+pub extern "C" fn sambighjone_set_tau_mag(image: &mut [f64], tau: f64) -> u32
+    ensures { told result image.new ≡ fed (λ f. set_tau_mag binary64 f tau) image.old }
+{
+    sambighjone::set::sambighjone_set_tau_mag(image, tau)
+}
+
+// Whether the bias is estimated in motion: 0 for no.
+#[unsafe(no_mangle)]
+pub extern "C" fn sambighjone_set_motion_bias_est_enabled(image: &mut [f64], on: u32) -> u32
+    ensures { told result image.new ≡ switched set_motion_bias_est_enabled on image.old }
+{
+    sambighjone::set::sambighjone_set_motion_bias_est_enabled(image, on)
+}
+
+// Whether rest is detected, and the bias estimated there: 0 for no.
+#[unsafe(no_mangle)]
+pub extern "C" fn sambighjone_set_rest_bias_est_enabled(image: &mut [f64], on: u32) -> u32
+    ensures { told result image.new ≡ switched (set_rest_bias_est_enabled binary64) on image.old }
+{
+    sambighjone::set::sambighjone_set_rest_bias_est_enabled(image, on)
+}
+
+// Whether a disturbed field is noticed and kept from the heading: 0 for no.
+#[unsafe(no_mangle)]
+pub extern "C" fn sambighjone_set_mag_dist_rejection_enabled(image: &mut [f64], on: u32) -> u32
+    ensures { told result image.new ≡ switched (set_mag_dist_rejection_enabled binary64) on image.old }
+{
+    sambighjone::set::sambighjone_set_mag_dist_rejection_enabled(image, on)
+}
+
+// The deviations from which a sample is not quiet: in °/s and in m/s².
+#[unsafe(no_mangle)]
+pub extern "C" fn sambighjone_set_rest_detection_thresholds(
+    image: &mut [f64],
+    th_gyr: f64,
+    th_acc: f64,
+) -> u32
+    ensures { told result image.new ≡ fed (λ f. set_rest_detection_thresholds binary64 f th_gyr th_acc) image.old }
+{
+    sambighjone::set::sambighjone_set_rest_detection_thresholds(image, th_gyr, th_acc)
+}
+
+// The bias, its uncertainty as it is.
+#[unsafe(no_mangle)]
+pub extern "C" fn sambighjone_set_bias_estimate(image: &mut [f64], x: f64, y: f64, z: f64) -> u32
+    ensures { told result image.new ≡ fed (λ f. set_bias_estimate binary64 f (vector x y z) Absent) image.old }
+{
+    sambighjone::set::sambighjone_set_bias_estimate(image, x, y, z)
+}
+
+// The gyro bias and its standard deviation, both in rad/s.
+#[unsafe(no_mangle)]
+pub extern "C" fn sambighjone_set_bias_estimate_with_sigma(
+    image: &mut [f64],
+    x: f64,
+    y: f64,
+    z: f64,
+    sigma: f64,
+) -> u32
+    ensures { told result image.new ≡ fed (λ f. set_bias_estimate binary64 f (vector x y z) (Given sigma)) image.old }
+{
+    sambighjone::set::sambighjone_set_bias_estimate_with_sigma(image, x, y, z, sigma)
+}
+
+// The reference: its norm in the magnetometer's unit, its dip in radians.
+#[unsafe(no_mangle)]
+pub extern "C" fn sambighjone_set_mag_ref(image: &mut [f64], norm: f64, dip: f64) -> u32
+    ensures { told result image.new ≡ fed (λ f. set_mag_ref binary64 f norm dip) image.old }
+{
+    sambighjone::set::sambighjone_set_mag_ref(image, norm, dip)
+}
+
+// A fresh state; the settings stay.
+#[unsafe(no_mangle)]
+pub extern "C" fn sambighjone_reset_state(image: &mut [f64]) -> u32
+    ensures { told result image.new ≡ fed (λ f. reset_state binary64 f) image.old }
+{
+    sambighjone::set::sambighjone_reset_state(image)
+}
