@@ -14,7 +14,8 @@ use Rattle.inertial.specs.Calls.{run}
 use Rattle.inertial.specs.Turns.{rate, Turns}
 use Rattle.inertial.specs.declared.types.Inertial.{Inertial}
 use Rattle.inertial.proofs.BiasLimit.{quarter, limit_within}
-use Rattle.inertial.proofs.BiasHeld.{Held, reached_held}
+use Rattle.inertial.proofs.BiasHeld.{Held}
+use Rattle.inertial.proofs.BiasReached.{reached_held}
 use Rattle.inertial.proofs.Sound.{reached_sound}
 
 difference : (w : Format) (x b : Float) → Within x (neg (gyr_limit w)) (gyr_limit w) → Within b (neg (quarter w)) (quarter w) → Rate w (sub w x b)
