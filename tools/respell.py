@@ -2,14 +2,18 @@
 """respell.py: spells the repository's own definitions and lemmas as today's Rattle does, in snake case.
 
 A name that a file of specs/ or proofs/ defines loses its dashes and middle dots to underscores (a dot at its end to an apostrophe), and a
-lower camel name its capitals, in every .antt and .rt file and every must-fail edit. Names of the library, of goals, of functions, types, modules and fields stay. It ran once, after
-the toolchain's port.py; `respell.py --dry` only tells what it would do, and which names would fall together."""
+lower camel name its capitals, in every .antt and .rt file and every must-fail edit. Names of the library, of goals, of functions, types, modules
+and fields stay. It ran after the toolchain's port.py; `respell.py --dry` only tells what it would do, and which names would fall together."""
 import glob
 import re
 import sys
 
 TOKEN = re.compile(r"[^\s(){}\[\],;.:`«»\"]+")
 DEFINED = re.compile(r"\s*(?:(?:abbrev|unfoldable|pub|record|data|ruleset) )*([^\s:(){}\[\]=]+)(?:\s+[a-zA-Zα-ω_']+)*(?:\s*[({][^=]*[)}])?\s*(?::\s|:$|=)")
+# several constructors of one type
+TOGETHER = re.compile(r"\s+((?:[^\s:(){}\[\]=]+ )+): ")
+# what a function's proof answers
+ANSWERS = re.compile(r"/proofs/.+/(Answers|Invariants)\.antt$")
 ALIAS = re.compile(r"\bas ([^\s(){},;]+)")
 GOAL = re.compile(r"^(returns|loop|value|again|μ|Inv)(-|$)")
 # a name of the library's stands in the way
@@ -27,13 +31,15 @@ def own_crates():
 def defined():
     names = set()
     for path in files():
-        if not path.endswith(".antt"):
+        if not path.endswith(".antt") or ANSWERS.search(path):
             continue
         proof = path.endswith("/Proof.antt")
         for line in open(path, encoding="utf-8"):
             if line.lstrip().startswith("--"):
                 continue
-            found = ([] if re.match(r"\s*(pub )?use ", line) else DEFINED.findall(line)[:1]) + ALIAS.findall(line)
+            found = ALIAS.findall(line)
+            if not re.match(r"\s*(pub )?use ", line):
+                found += DEFINED.findall(line)[:1] + " ".join(TOGETHER.findall(line)[:1]).split()
             names.update(n for n in found if not (proof and GOAL.match(n)))
     return names
 

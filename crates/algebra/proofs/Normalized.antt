@@ -8,7 +8,7 @@ use Rattle.floats.specs.Tests.{both, keeps}
 use Rattle.floats.specs.Order.{nought, number, le_tr, le_rf, lt→nle, nlt→le, le→number, Within, within_finite, widen}
 use Rattle.floats.specs.Quotients.{positive_up}
 use Rattle.floats.specs.Products.{square_from, finite_number}
-use Rattle.floats.specs.Intervals.{Known, none, known, Expr, var, lit, add·, sub·, mul·, div', eval, bound, inside, good, bounded, is_finite}
+use Rattle.floats.specs.Intervals.{Known, none, known, Expr, var, lit, add', sub', mul', div', eval, bound, inside, good, bounded, is_finite}
 use Rattle.floats.proofs.FromZero.{magnitude_finite, magnitude_from, magnitude_within, square_grows, sum_from, sum_grows, total, numerator_finite}
 use Rattle.floats.proofs.Chosen.{chosen}
 use Rattle.numbers.specs.Constants.{ANGLE_LIMIT}
@@ -83,7 +83,7 @@ module _ (w : Format) where
   product = power (exponent 92 720 w)
 
 abbrev term : ℕ → ℕ → Expr
-term i j = mul· (var i) (var j)
+term i j = mul' (var i) (var j)
 
 module _ (w : Format) where
   abbrev Sized : Float → Float → Type 0
@@ -128,15 +128,15 @@ module _ (w : Format) where
     far : (x n : Float) (v : Sized (largest w) x) (u : Within n (large w) (largest w)) → Inside (divided' (largest w) (large w) x n v u) (div' (var 0) (var 1)) (small w)
     products :
         (p q : Quaternion) (a : AllSmall p) (b : AllSmall q) → let k = four (small w) p a (four (small w) q b none) in
-        Inside k (sub· (sub· (sub· (term 0 4) (term 1 5)) (term 2 6)) (term 3 7)) (product w)
-        × Inside k (sub· (add· (add· (term 0 5) (term 1 4)) (term 2 7)) (term 3 6)) (product w)
-        × Inside k (add· (add· (sub· (term 0 6) (term 1 7)) (term 2 4)) (term 3 5)) (product w)
-        × Inside k (add· (sub· (add· (term 0 7) (term 1 6)) (term 2 5)) (term 3 4)) (product w)
+        Inside k (sub' (sub' (sub' (term 0 4) (term 1 5)) (term 2 6)) (term 3 7)) (product w)
+        × Inside k (sub' (add' (add' (term 0 5) (term 1 4)) (term 2 7)) (term 3 6)) (product w)
+        × Inside k (add' (add' (sub' (term 0 6) (term 1 7)) (term 2 4)) (term 3 5)) (product w)
+        × Inside k (add' (sub' (add' (term 0 7) (term 1 6)) (term 2 5)) (term 3 4)) (product w)
     served : (d : Float) (v : Sized (pi w) d) → Inside (known d (neg (pi w)) (pi w) v none) (div' (var 0) (lit (two w))) ANGLE_LIMIT
     turned_finite :
         (c s : Float) (q : Quaternion) (u : Sized (one w) c) (v : Sized (one w) s) (t : AllProducts q) → let k = turned c s q u v t in
-        T (good (bound w k (sub· (term 0 2) (term 1 5)))) × T (good (bound w k (sub· (term 0 3) (term 1 4))))
-        × T (good (bound w k (add· (term 0 4) (term 1 3)))) × T (good (bound w k (add· (term 0 5) (term 1 2))))
+        T (good (bound w k (sub' (term 0 2) (term 1 5)))) × T (good (bound w k (sub' (term 0 3) (term 1 4))))
+        × T (good (bound w k (add' (term 0 4) (term 1 3)))) × T (good (bound w k (add' (term 0 5) (term 1 2))))
 
 over_infinity : (w : Format) (s : Bool) (m : ℕ) (e : ℤ) → Small w (div w (fin s m e) (inf false))
 unfolding div neg le

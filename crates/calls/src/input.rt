@@ -2,20 +2,26 @@
 // taken.
 ghost use Rattle.std.specs.Prelude.{◌≤◌};
 
-use libc::STDIN_FILENO;
+use std::io;
+use std::io::{Read, Stdin};
 
 // Whether a byte is left. Where the buffer is taken, the next is read.
-pub fn is_left(buf: &mut [u8; 65536], at: &mut usize, end: &mut usize) -> bool
+pub fn is_left(
+    mut stdin: Stdin,
+    buf: &mut [u8; 65536],
+    at: &mut usize,
+    end: &mut usize,
+) -> io::Result<bool>
     requires { end.old ≤ 65536 }
     ensures { end.new ≤ 65536 }
 {
     if *at < *end {
-        return true;
+        return Ok(true);
     }
-    let count = io::count(libc::read(STDIN_FILENO, buf), buf);
+    let count = stdin.read(buf)?;
     *at = 0;
     *end = count;
-    count > 0
+    Ok(count > 0)
 }
 
 // The next byte; after the last, the end of a line.

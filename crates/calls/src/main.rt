@@ -1,6 +1,7 @@
 // Plays a call script and prints each answer and each stored number by its bits. A line that is no
 // call writes `bad` and its number, says on the error stream what is wrong, and ends the run.
 #![tactic(auto)]
+
 mod complaint;
 mod input;
 mod output;
@@ -13,106 +14,168 @@ use crate::output::{
 };
 use crate::state::{put_answers, put_state};
 use script::{Call, Fault, Reader, Request, Samples};
+use std::io;
+use std::io::{Stderr, Stdin, Stdout};
 use vqf::VQF;
 
-fn main() {
-    run(&mut io::large_buffer(), &mut io::large_buffer());
+fn main(rt: HostRuntime) -> io::Result<()> {
+    run(
+        rt.stdin(),
+        rt.stdout(),
+        rt.stderr(),
+        &mut [0; 65536],
+        &mut [0; 65536],
+    )
 }
 
-fn run(buf: &mut [u8; 65536], out: &mut [u8; 65536]) {
+// What was gathered is written out where the play ends by a failed read or write too.
+fn run(
+    stdin: Stdin,
+    stdout: Stdout,
+    stderr: Stderr,
+    buf: &mut [u8; 65536],
+    out: &mut [u8; 65536],
+) -> io::Result<()> {
     let mut to = 0usize;
-    play(buf, out, &mut to);
-    flush(out, to);
+    let played = play(stdin, stdout, stderr, buf, out, &mut to);
+    flush(stdout, out, to)?;
+    played
 }
 
 // A proved loop has to end, and nothing says that the input does: no run has as many bytes as a
 // number can count.
-fn play(buf: &mut [u8; 65536], out: &mut [u8; 65536], to: &mut usize) {
+fn play(
+    stdin: Stdin,
+    stdout: Stdout,
+    stderr: Stderr,
+    buf: &mut [u8; 65536],
+    out: &mut [u8; 65536],
+    to: &mut usize,
+) -> io::Result<()> {
     let mut at = 0usize;
     let mut end = 0usize;
     let mut number = 1u64;
     let mut filter = VQF::fresh();
     let mut reader = Reader::START;
     for turn in 0..u64::MAX {
-        let more = is_left(buf, &mut at, &mut end);
+        let more = is_left(stdin, buf, &mut at, &mut end)?;
         reader = reader.with(next(buf, &mut at, end));
         if reader.is_ended {
             let request = reader.line.request();
-            filter = answered(filter, request, reader.line.name, number, out, to);
+            filter = answered(
+                stdout,
+                stderr,
+                filter,
+                request,
+                reader.line.name,
+                number,
+                out,
+                to,
+            )?;
             if is_bad(request) {
-                return;
+                return Ok(());
             }
             number = after(number);
             reader = Reader::START;
         }
         if !more {
-            return;
+            return Ok(());
         }
     }
+    Ok(())
 }
 
 // Writes what a line is answered, and hands back the next filter.
 fn answered(
+    stdout: Stdout,
+    stderr: Stderr,
     f: VQF,
     request: Request,
     name: u64,
     number: u64,
     out: &mut [u8; 65536],
     to: &mut usize,
-) -> VQF {
+) -> io::Result<VQF> {
     match request {
-        Request::Nothing => f,
+        Request::Nothing => Ok(f),
         Request::Bad(fault) => {
-            put_bad(number, fault, out, to);
-            f
+            put_bad(stdout, stderr, number, fault, out, to)?;
+            Ok(f)
         }
         Request::Value(x) => {
-            put_value(name, x, out, to);
-            f
+            put_value(stdout, name, x, out, to)?;
+            Ok(f)
         }
         Request::State => {
-            put_state(out, to, f);
-            f
+            put_state(stdout, out, to, f)?;
+            Ok(f)
         }
         Request::Get => {
-            put_answers(out, to, f);
-            f
+            put_answers(stdout, out, to, f)?;
+            Ok(f)
         }
-        Request::Update(samples) => updated(f, name, samples, out, to),
-        Request::Call(call) => called(f, name, call, out, to),
+        Request::Update(samples) => updated(stdout, f, name, samples, out, to),
+        Request::Call(call) => called(stdout, f, name, call, out, to),
     }
 }
 
-fn put_bad(number: u64, fault: Fault, out: &mut [u8; 65536], to: &mut usize) {
-    put_text(out, to, b"bad ");
-    put_decimal(out, to, number);
-    put(out, to, b'\n');
-    complain(b"calls", number, fault);
+fn put_bad(
+    stdout: Stdout,
+    stderr: Stderr,
+    number: u64,
+    fault: Fault,
+    out: &mut [u8; 65536],
+    to: &mut usize,
+) -> io::Result<()> {
+    put_text(stdout, out, to, b"bad ")?;
+    put_decimal(stdout, out, to, number)?;
+    put(stdout, out, to, b'\n')?;
+    complain(stderr, b"calls", number, fault)
 }
 
-fn put_value(name: u64, x: f64, out: &mut [u8; 65536], to: &mut usize) {
-    put_word(out, to, name);
-    put_number(out, to, x);
-    put(out, to, b'\n');
+fn put_value(
+    stdout: Stdout,
+    name: u64,
+    x: f64,
+    out: &mut [u8; 65536],
+    to: &mut usize,
+) -> io::Result<()> {
+    put_word(stdout, out, to, name)?;
+    put_number(stdout, out, to, x)?;
+    put(stdout, out, to, b'\n')
 }
 
-fn updated(f: VQF, name: u64, s: Samples, out: &mut [u8; 65536], to: &mut usize) -> VQF {
-    put_word(out, to, name);
+fn updated(
+    stdout: Stdout,
+    f: VQF,
+    name: u64,
+    s: Samples,
+    out: &mut [u8; 65536],
+    to: &mut usize,
+) -> io::Result<VQF> {
+    put_word(stdout, out, to, name)?;
     let sample = s.mag;
     let u = f.update(s.gyr, s.acc, sample);
     let gyr = u.gyr;
     let acc = u.acc;
     let mag = u.mag;
-    put_three_answers(out, to, gyr, acc, mag);
-    u.filter
+    put_three_answers(stdout, out, to, gyr, acc, mag)?;
+    Ok(u.filter)
 }
 
-fn called(f: VQF, name: u64, call: Call, out: &mut [u8; 65536], to: &mut usize) -> VQF {
-    put_word(out, to, name);
+fn called(
+    stdout: Stdout,
+    f: VQF,
+    name: u64,
+    call: Call,
+    out: &mut [u8; 65536],
+    to: &mut usize,
+) -> io::Result<VQF> {
+    put_word(stdout, out, to, name)?;
     let u = script::called(f, call);
     let answer = u.answer;
-    put_answer(out, to, answer);
-    u.filter
+    put_answer(stdout, out, to, answer)?;
+    Ok(u.filter)
 }
 
 fn is_bad(request: Request) -> bool {

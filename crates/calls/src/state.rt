@@ -6,29 +6,38 @@ use inertial::asked::BiasEstimate;
 use inertial::types::{Bias, BiasCoefficients, BiasParams};
 use magnetic::types::{Field, Heading, Smoothing};
 use magnetic::{MagneticCoefficients, MagneticParams};
+use std::io;
+use std::io::Stdout;
 use tilt::{Deviations, Inclination, Rest, RestParams};
 use vqf::{Coefficients, Params, State, VQF};
 
-pub fn put_state(out: &mut [u8; 65536], at: &mut usize, f: VQF) {
-    put(out, at, b'=');
-    put_params(out, at, f.params());
-    put_coefficients(out, at, f.coeffs());
-    put_stored(out, at, f.state());
-    put(out, at, b'\n');
+pub fn put_state(stdout: Stdout, out: &mut [u8; 65536], at: &mut usize, f: VQF) -> io::Result<()> {
+    put(stdout, out, at, b'=')?;
+    put_params(stdout, out, at, f.params())?;
+    put_coefficients(stdout, out, at, f.coeffs())?;
+    put_stored(stdout, out, at, f.state())?;
+    put(stdout, out, at, b'\n')
 }
 
-fn put_params(out: &mut [u8; 65536], at: &mut usize, p: Params) {
-    put_numbers(out, at, &[p.inertial.tau_acc, p.magnetic.tau_mag]);
-    put_flag(out, at, p.inertial.bias.motion_bias_est_enabled);
-    put_flag(out, at, p.inertial.rest.rest_bias_est_enabled);
-    put_flag(out, at, p.inertial.rest.mag_dist_rejection_enabled);
-    put_bias_params(out, at, p.inertial.bias, p.inertial.rest.bias_clip);
-    put_rest_params(out, at, p.inertial.rest);
-    put_magnetic_params(out, at, p.magnetic);
+fn put_params(stdout: Stdout, out: &mut [u8; 65536], at: &mut usize, p: Params) -> io::Result<()> {
+    put_numbers(stdout, out, at, &[p.inertial.tau_acc, p.magnetic.tau_mag])?;
+    put_flag(stdout, out, at, p.inertial.bias.motion_bias_est_enabled)?;
+    put_flag(stdout, out, at, p.inertial.rest.rest_bias_est_enabled)?;
+    put_flag(stdout, out, at, p.inertial.rest.mag_dist_rejection_enabled)?;
+    put_bias_params(stdout, out, at, p.inertial.bias, p.inertial.rest.bias_clip)?;
+    put_rest_params(stdout, out, at, p.inertial.rest)?;
+    put_magnetic_params(stdout, out, at, p.magnetic)
 }
 
-fn put_bias_params(out: &mut [u8; 65536], at: &mut usize, p: BiasParams, bias_clip: f64) {
+fn put_bias_params(
+    stdout: Stdout,
+    out: &mut [u8; 65536],
+    at: &mut usize,
+    p: BiasParams,
+    bias_clip: f64,
+) -> io::Result<()> {
     put_numbers(
+        stdout,
         out,
         at,
         &[
@@ -39,11 +48,17 @@ fn put_bias_params(out: &mut [u8; 65536], at: &mut usize, p: BiasParams, bias_cl
             p.bias_vertical_forgetting_factor,
             p.bias_sigma_rest,
         ],
-    );
+    )
 }
 
-fn put_rest_params(out: &mut [u8; 65536], at: &mut usize, p: RestParams) {
+fn put_rest_params(
+    stdout: Stdout,
+    out: &mut [u8; 65536],
+    at: &mut usize,
+    p: RestParams,
+) -> io::Result<()> {
     put_numbers(
+        stdout,
         out,
         at,
         &[
@@ -52,11 +67,17 @@ fn put_rest_params(out: &mut [u8; 65536], at: &mut usize, p: RestParams) {
             p.rest_th_gyr,
             p.rest_th_acc,
         ],
-    );
+    )
 }
 
-fn put_magnetic_params(out: &mut [u8; 65536], at: &mut usize, p: MagneticParams) {
+fn put_magnetic_params(
+    stdout: Stdout,
+    out: &mut [u8; 65536],
+    at: &mut usize,
+    p: MagneticParams,
+) -> io::Result<()> {
     put_numbers(
+        stdout,
         out,
         at,
         &[
@@ -71,26 +92,38 @@ fn put_magnetic_params(out: &mut [u8; 65536], at: &mut usize, p: MagneticParams)
             p.mag_max_rejection_time,
             p.mag_rejection_factor,
         ],
-    );
+    )
 }
 
-fn put_coefficients(out: &mut [u8; 65536], at: &mut usize, c: Coefficients) {
+fn put_coefficients(
+    stdout: Stdout,
+    out: &mut [u8; 65536],
+    at: &mut usize,
+    c: Coefficients,
+) -> io::Result<()> {
     put_numbers(
+        stdout,
         out,
         at,
         &[c.inertial.gyr_ts, c.inertial.acc_ts, c.magnetic.mag_ts],
-    );
-    put_coeffs(out, at, c.inertial.acc_lp);
-    put_number(out, at, c.magnetic.k_mag);
-    put_bias_coefficients(out, at, c.inertial.bias);
-    put_coeffs(out, at, c.inertial.rest_gyr_lp);
-    put_coeffs(out, at, c.inertial.rest_acc_lp);
-    put_number(out, at, c.magnetic.k_mag_ref);
-    put_smoothing(out, at, c.magnetic);
+    )?;
+    put_coeffs(stdout, out, at, c.inertial.acc_lp)?;
+    put_number(stdout, out, at, c.magnetic.k_mag)?;
+    put_bias_coefficients(stdout, out, at, c.inertial.bias)?;
+    put_coeffs(stdout, out, at, c.inertial.rest_gyr_lp)?;
+    put_coeffs(stdout, out, at, c.inertial.rest_acc_lp)?;
+    put_number(stdout, out, at, c.magnetic.k_mag_ref)?;
+    put_smoothing(stdout, out, at, c.magnetic)
 }
 
-fn put_bias_coefficients(out: &mut [u8; 65536], at: &mut usize, c: BiasCoefficients) {
+fn put_bias_coefficients(
+    stdout: Stdout,
+    out: &mut [u8; 65536],
+    at: &mut usize,
+    c: BiasCoefficients,
+) -> io::Result<()> {
     put_numbers(
+        stdout,
         out,
         at,
         &[
@@ -100,53 +133,61 @@ fn put_bias_coefficients(out: &mut [u8; 65536], at: &mut usize, c: BiasCoefficie
             c.bias_vertical_w,
             c.bias_rest_w,
         ],
-    );
+    )
 }
 
-fn put_coeffs(out: &mut [u8; 65536], at: &mut usize, c: Coeffs) {
-    put_numbers(out, at, &[c.b0, c.b1, c.b2, c.a1, c.a2]);
+fn put_coeffs(stdout: Stdout, out: &mut [u8; 65536], at: &mut usize, c: Coeffs) -> io::Result<()> {
+    put_numbers(stdout, out, at, &[c.b0, c.b1, c.b2, c.a1, c.a2])
 }
 
-fn put_smoothing(out: &mut [u8; 65536], at: &mut usize, c: MagneticCoefficients) {
+fn put_smoothing(
+    stdout: Stdout,
+    out: &mut [u8; 65536],
+    at: &mut usize,
+    c: MagneticCoefficients,
+) -> io::Result<()> {
     let mag_norm_dip_lp = c.mag_norm_dip_lp;
     match mag_norm_dip_lp {
-        Smoothing::Absent => put_text(out, at, b" -"),
-        Smoothing::Present(lp) => put_coeffs(out, at, lp),
+        Smoothing::Absent => put_text(stdout, out, at, b" -"),
+        Smoothing::Present(lp) => put_coeffs(stdout, out, at, lp),
     }
 }
 
-fn put_stored(out: &mut [u8; 65536], at: &mut usize, s: State) {
+fn put_stored(stdout: Stdout, out: &mut [u8; 65536], at: &mut usize, s: State) -> io::Result<()> {
     put_attitude(
+        stdout,
         out,
         at,
         s.inertial.inclination,
         s.magnetic.heading,
         s.inertial.rest.rest_detected,
         s.magnetic.field.mag_dist_detected,
-    );
-    put_bias(out, at, s.inertial.bias);
-    put_rest(out, at, s.inertial.rest);
-    put_field(out, at, s.magnetic.field);
+    )?;
+    put_bias(stdout, out, at, s.inertial.bias)?;
+    put_rest(stdout, out, at, s.inertial.rest)?;
+    put_field(stdout, out, at, s.magnetic.field)
 }
 
 // Where the device points, and whether it rests in an undisturbed field.
 fn put_attitude(
+    stdout: Stdout,
     out: &mut [u8; 65536],
     at: &mut usize,
     i: Inclination,
     h: Heading,
     is_resting: bool,
     is_disturbed: bool,
-) {
+) -> io::Result<()> {
     let acc_lp_state = i.acc_lp_state;
-    put_quaternion(out, at, i.gyr_quat);
-    put_quaternion(out, at, i.acc_quat);
-    put_number(out, at, h.delta);
-    put_flag(out, at, is_resting);
-    put_flag(out, at, is_disturbed);
-    put_vector(out, at, i.last_acc_lp);
-    put_channels3(out, at, acc_lp_state);
+    put_quaternion(stdout, out, at, i.gyr_quat)?;
+    put_quaternion(stdout, out, at, i.acc_quat)?;
+    put_number(stdout, out, at, h.delta)?;
+    put_flag(stdout, out, at, is_resting)?;
+    put_flag(stdout, out, at, is_disturbed)?;
+    put_vector(stdout, out, at, i.last_acc_lp)?;
+    put_channels3(stdout, out, at, acc_lp_state)?;
     put_numbers(
+        stdout,
         out,
         at,
         &[
@@ -155,31 +196,32 @@ fn put_attitude(
             h.last_mag_dis_angle,
             h.last_mag_corr_angular_rate,
         ],
-    );
+    )
 }
 
-fn put_bias(out: &mut [u8; 65536], at: &mut usize, b: Bias) {
+fn put_bias(stdout: Stdout, out: &mut [u8; 65536], at: &mut usize, b: Bias) -> io::Result<()> {
     let rlp = b.motion_bias_est_rlp_state;
     let lp = b.motion_bias_est_bias_lp_state;
-    put_vector(out, at, b.bias);
-    put_matrix(out, at, b.bias_p);
-    put_channels9(out, at, rlp);
-    put_channels2(out, at, lp);
+    put_vector(stdout, out, at, b.bias)?;
+    put_matrix(stdout, out, at, b.bias_p)?;
+    put_channels9(stdout, out, at, rlp)?;
+    put_channels2(stdout, out, at, lp)
 }
 
-fn put_rest(out: &mut [u8; 65536], at: &mut usize, r: Rest) {
+fn put_rest(stdout: Stdout, out: &mut [u8; 65536], at: &mut usize, r: Rest) -> io::Result<()> {
     let gyr_lp_state = r.rest_gyr_lp_state;
     let acc_lp_state = r.rest_acc_lp_state;
-    put_deviations(out, at, r.rest_last_squared_deviations);
-    put_number(out, at, r.rest_t);
-    put_vector(out, at, r.rest_last_gyr_lp);
-    put_channels3(out, at, gyr_lp_state);
-    put_vector(out, at, r.rest_last_acc_lp);
-    put_channels3(out, at, acc_lp_state);
+    put_deviations(stdout, out, at, r.rest_last_squared_deviations)?;
+    put_number(stdout, out, at, r.rest_t)?;
+    put_vector(stdout, out, at, r.rest_last_gyr_lp)?;
+    put_channels3(stdout, out, at, gyr_lp_state)?;
+    put_vector(stdout, out, at, r.rest_last_acc_lp)?;
+    put_channels3(stdout, out, at, acc_lp_state)
 }
 
-fn put_field(out: &mut [u8; 65536], at: &mut usize, f: Field) {
+fn put_field(stdout: Stdout, out: &mut [u8; 65536], at: &mut usize, f: Field) -> io::Result<()> {
     put_numbers(
+        stdout,
         out,
         at,
         &[
@@ -193,78 +235,127 @@ fn put_field(out: &mut [u8; 65536], at: &mut usize, f: Field) {
             f.mag_norm_dip.0,
             f.mag_norm_dip.1,
         ],
-    );
+    )?;
     let norm_dip_lp_state = f.mag_norm_dip_lp_state;
-    put_channels2(out, at, norm_dip_lp_state);
+    put_channels2(stdout, out, at, norm_dip_lp_state)
 }
 
-fn put_channels2(out: &mut [u8; 65536], at: &mut usize, channels: [Channel; 2]) {
-    put_channel(out, at, channels[0]);
-    put_channel(out, at, channels[1]);
+fn put_channels2(
+    stdout: Stdout,
+    out: &mut [u8; 65536],
+    at: &mut usize,
+    channels: [Channel; 2],
+) -> io::Result<()> {
+    put_channel(stdout, out, at, channels[0])?;
+    put_channel(stdout, out, at, channels[1])
 }
 
-fn put_channels3(out: &mut [u8; 65536], at: &mut usize, channels: [Channel; 3]) {
-    put_channel(out, at, channels[0]);
-    put_channel(out, at, channels[1]);
-    put_channel(out, at, channels[2]);
+fn put_channels3(
+    stdout: Stdout,
+    out: &mut [u8; 65536],
+    at: &mut usize,
+    channels: [Channel; 3],
+) -> io::Result<()> {
+    put_channel(stdout, out, at, channels[0])?;
+    put_channel(stdout, out, at, channels[1])?;
+    put_channel(stdout, out, at, channels[2])
 }
 
-fn put_channels9(out: &mut [u8; 65536], at: &mut usize, channels: [Channel; 9]) {
+fn put_channels9(
+    stdout: Stdout,
+    out: &mut [u8; 65536],
+    at: &mut usize,
+    channels: [Channel; 9],
+) -> io::Result<()> {
     for i in 0..9usize {
-        put_channel(out, at, channels[i]);
+        put_channel(stdout, out, at, channels[i])?;
     }
+    Ok(())
 }
 
-fn put_channel(out: &mut [u8; 65536], at: &mut usize, channel: Channel) {
+fn put_channel(
+    stdout: Stdout,
+    out: &mut [u8; 65536],
+    at: &mut usize,
+    channel: Channel,
+) -> io::Result<()> {
     let phase = channel.phase;
     match phase {
-        Phase::Averaging(count, sum) => put_phase(out, at, b'A', count, sum),
-        Phase::Running(m0, m1) => put_phase(out, at, b'R', m0, m1),
+        Phase::Averaging(count, sum) => put_phase(stdout, out, at, b'A', count, sum),
+        Phase::Running(m0, m1) => put_phase(stdout, out, at, b'R', m0, m1),
     }
 }
 
-fn put_phase(out: &mut [u8; 65536], at: &mut usize, letter: u8, x: f64, y: f64) {
-    put_text(out, at, &[b' ', letter]);
-    put_numbers(out, at, &[x, y]);
+fn put_phase(
+    stdout: Stdout,
+    out: &mut [u8; 65536],
+    at: &mut usize,
+    letter: u8,
+    x: f64,
+    y: f64,
+) -> io::Result<()> {
+    put_text(stdout, out, at, &[b' ', letter])?;
+    put_numbers(stdout, out, at, &[x, y])
 }
 
-pub fn put_answers(out: &mut [u8; 65536], at: &mut usize, f: VQF) {
-    put(out, at, b'?');
-    put_quaternion(out, at, f.quat_3d());
-    put_quaternion(out, at, f.quat_6d());
-    put_quaternion(out, at, f.quat_9d());
-    put_number(out, at, f.delta());
-    put_estimate(out, at, f.bias_estimate());
-    put_flag(out, at, f.rest_detected());
-    put_flag(out, at, f.mag_dist_detected());
-    put_deviations(out, at, f.relative_rest_deviations());
-    put_numbers(out, at, &[f.mag_ref_norm(), f.mag_ref_dip()]);
-    put(out, at, b'\n');
+pub fn put_answers(
+    stdout: Stdout,
+    out: &mut [u8; 65536],
+    at: &mut usize,
+    f: VQF,
+) -> io::Result<()> {
+    put(stdout, out, at, b'?')?;
+    put_quaternion(stdout, out, at, f.quat_3d())?;
+    put_quaternion(stdout, out, at, f.quat_6d())?;
+    put_quaternion(stdout, out, at, f.quat_9d())?;
+    put_number(stdout, out, at, f.delta())?;
+    put_estimate(stdout, out, at, f.bias_estimate())?;
+    put_flag(stdout, out, at, f.rest_detected())?;
+    put_flag(stdout, out, at, f.mag_dist_detected())?;
+    put_deviations(stdout, out, at, f.relative_rest_deviations())?;
+    put_numbers(stdout, out, at, &[f.mag_ref_norm(), f.mag_ref_dip()])?;
+    put(stdout, out, at, b'\n')
 }
 
-fn put_estimate(out: &mut [u8; 65536], at: &mut usize, estimate: BiasEstimate) {
-    put_vector(out, at, estimate.bias);
-    put_number(out, at, estimate.sigma);
+fn put_estimate(
+    stdout: Stdout,
+    out: &mut [u8; 65536],
+    at: &mut usize,
+    estimate: BiasEstimate,
+) -> io::Result<()> {
+    put_vector(stdout, out, at, estimate.bias)?;
+    put_number(stdout, out, at, estimate.sigma)
 }
 
-fn put_deviations(out: &mut [u8; 65536], at: &mut usize, d: Deviations) {
-    put_numbers(out, at, &[d.0, d.1]);
+fn put_deviations(
+    stdout: Stdout,
+    out: &mut [u8; 65536],
+    at: &mut usize,
+    d: Deviations,
+) -> io::Result<()> {
+    put_numbers(stdout, out, at, &[d.0, d.1])
 }
 
-fn put_vector(out: &mut [u8; 65536], at: &mut usize, v: Vector) {
-    put_numbers(out, at, &[v.0, v.1, v.2]);
+fn put_vector(stdout: Stdout, out: &mut [u8; 65536], at: &mut usize, v: Vector) -> io::Result<()> {
+    put_numbers(stdout, out, at, &[v.0, v.1, v.2])
 }
 
-fn put_quaternion(out: &mut [u8; 65536], at: &mut usize, q: Quaternion) {
-    put_numbers(out, at, &[q.0, q.1, q.2, q.3]);
+fn put_quaternion(
+    stdout: Stdout,
+    out: &mut [u8; 65536],
+    at: &mut usize,
+    q: Quaternion,
+) -> io::Result<()> {
+    put_numbers(stdout, out, at, &[q.0, q.1, q.2, q.3])
 }
 
-fn put_matrix(out: &mut [u8; 65536], at: &mut usize, m: Matrix) {
+fn put_matrix(stdout: Stdout, out: &mut [u8; 65536], at: &mut usize, m: Matrix) -> io::Result<()> {
     put_numbers(
+        stdout,
         out,
         at,
         &[
             m.m00, m.m01, m.m02, m.m10, m.m11, m.m12, m.m20, m.m21, m.m22,
         ],
-    );
+    )
 }

@@ -1,6 +1,7 @@
 // A filter that is kept in place and lent to each call: one thin entry for each sensor. Each does what
 // the call by value does, leaves its filter behind the reference and hands back its answer.
 #![tactic(auto)]
+
 ghost use Rattle.std.specs.Prelude.{◌≡◌};
 ghost use Rattle.std.specs.Float.{binary64};
 ghost use Rattle.limits.specs.Answers.{number, told};

@@ -3,9 +3,11 @@
 // by oracle/example.rs, which makes the same calls of the Rust source:
 //   target/oracle/example > crates/example/stdout
 #![tactic(auto)]
+
 mod output;
 
 use algebra::{Quaternion, Vector};
+use std::io;
 use vqf::{Interval, Settings, VQF};
 
 fn points_down(f: VQF) -> bool {
@@ -37,11 +39,12 @@ fn at_the_other(f: VQF) -> VQF {
     g.update_mag(Vector(-19.1, -7.8, -40.0)).filter
 }
 
-fn main() {
+fn main(rt: HostRuntime) -> io::Result<()> {
+    let stdout = rt.stdout();
     let trolley = at_the_trolley();
-    output::tilt(b"at the trolley: ", points_down(trolley));
+    output::tilt(stdout, b"at the trolley: ", points_down(trolley))?;
     let one = at_one_shelf();
-    output::tilt(b"at the shelf: ", points_down(one));
+    output::tilt(stdout, b"at the shelf: ", points_down(one))?;
     let two = at_the_other(one);
-    output::turn(turned_about(one.quat_9d(), two.quat_9d()));
+    output::turn(stdout, turned_about(one.quat_9d(), two.quat_9d()))
 }

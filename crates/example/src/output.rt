@@ -1,22 +1,23 @@
-use libc::STDOUT_FILENO;
+use std::io;
+use std::io::Stdout;
 
-fn put(text: &[u8]) {
-    io::write_all(STDOUT_FILENO, text);
+fn put(stdout: Stdout, text: &[u8]) -> io::Result<()> {
+    stdout.write_all(text)
 }
 
-pub(crate) fn tilt(place: &[u8], down: bool) {
-    put(place);
+pub(crate) fn tilt(stdout: Stdout, place: &[u8], down: bool) -> io::Result<()> {
+    put(stdout, place)?;
     if down {
-        put(b"pointed down, a return\n");
+        put(stdout, b"pointed down, a return\n")
     } else {
-        put(b"held level, a shelf check\n");
+        put(stdout, b"held level, a shelf check\n")
     }
 }
 
-pub(crate) fn turn(about: bool) {
+pub(crate) fn turn(stdout: Stdout, about: bool) -> io::Result<()> {
     if about {
-        put(b"between two shelves: turned about\n");
+        put(stdout, b"between two shelves: turned about\n")
     } else {
-        put(b"between two shelves: the same way\n");
+        put(stdout, b"between two shelves: the same way\n")
     }
 }

@@ -9,7 +9,7 @@ use Rattle.floats.specs.Order.{le_tr, Within, within_finite, each_finite, betwee
 use Rattle.floats.specs.Products.{mul_mono, mul_sym}
 use Rattle.floats.specs.Quotients.{div_anti, positive_up}
 use Rattle.floats.specs.Relative.{undone}
-use Rattle.floats.specs.Intervals.{none, known, Expr, var, lit, add·, sub·, mul·, div', bound, inside, bounded, is_finite}
+use Rattle.floats.specs.Intervals.{none, known, Expr, var, lit, add', sub', mul', div', bound, inside, bounded, is_finite}
 use Rattle.numbers.specs.Constants.{𝟎, 𝟏, PI, TAN_LIMIT}
 use Rattle.numbers.specs.Sines.{tan}
 use Rattle.numbers.proofs.Ranges.{ranges}
@@ -24,7 +24,7 @@ abbrev K : Float
 K = SQRT_2 ⊘ (𝟐 ⊗ PI)
 
 abbrev K' : Expr
-K' = div' (lit SQRT_2) (mul· (lit 𝟐) (lit PI))
+K' = div' (lit SQRT_2) (mul' (lit 𝟐) (lit PI))
 
 -- the nearest binary32 to 0.0001 is below the nearest binary64: what either format takes lies from LEAST up to MOST
 abbrev LEAST : Float
@@ -51,14 +51,14 @@ module _ (t : Float) (v : Within t LEAST MOST) where
 
   product_finite : T (finite (PI ⊗ (K ⊘ t)))
   unfolding bound of_bits
-  product_finite = is_finite binary64 (known t LEAST MOST v none) (mul· (lit PI) (div' K' (var 0))) tt
+  product_finite = is_finite binary64 (known t LEAST MOST v none) (mul' (lit PI) (div' K' (var 0))) tt
 
   at_itself : T (le t 𝟏) → T (le (angle t t) TAN_LIMIT)
   unfolding angle bound inside div mul of_bits
   at_itself u =
       let k = known t LEAST 𝟏 (v.0, u) none in
       let q = (bounded binary64 k (div' K' (var 0)) EIGHTH MOST tt).0 in
-      let r = (bounded binary64 k (mul· (lit PI) (div' K' (var 0))) EIGHTH MOST tt).0 in
+      let r = (bounded binary64 k (mul' (lit PI) (div' K' (var 0))) EIGHTH MOST tt).0 in
       subst (λ (z : Float). T (le (angle t t) z)) limit_rounded (undone binary64 PI K t TAN_LIMIT EIGHTH EIGHTH tt tt above tt tt quotient_finite q tt tt product_finite r tt)
 
 module _ (tau ts : Float) (v : Within ts LEAST 𝟏) (u : Within tau ts MOST) where
@@ -70,7 +70,7 @@ module _ (tau ts : Float) (v : Within ts LEAST 𝟏) (u : Within tau ts MOST) wh
 
   from_zero : T (le 𝟎 (angle tau ts))
   unfolding angle bound inside of_bits
-  from_zero = (bounded binary64 (known tau LEAST MOST tau_taken (known ts LEAST 𝟏 v none)) (mul· (mul· (lit PI) (div' K' (var 0))) (var 1)) 𝟎 MOST tt).0
+  from_zero = (bounded binary64 (known tau LEAST MOST tau_taken (known ts LEAST 𝟏 v none)) (mul' (mul' (lit PI) (div' K' (var 0))) (var 1)) 𝟎 MOST tt).0
 
   smaller : T (le (angle tau ts) (angle ts ts))
   unfolding angle le div mul of_bits
@@ -87,20 +87,20 @@ module _ (tau ts : Float) (v : Within ts LEAST 𝟏) (u : Within tau ts MOST) wh
 
 -- ---- the coefficients, from the tangent c
 abbrev d' : Expr
-d' = add· (add· (mul· (var 0) (var 0)) (mul· (lit SQRT_2) (var 0))) (lit 𝟏)
+d' = add' (add' (mul' (var 0) (var 0)) (mul' (lit SQRT_2) (var 0))) (lit 𝟏)
 
 abbrev b0' : Expr
-b0' = div' (mul· (var 0) (var 0)) d'
+b0' = div' (mul' (var 0) (var 0)) d'
 
 coeffs_within : (c : Float) → Within c 𝟎 𝟏 → Bounded (coeffs c)
 unfolding coeffs bound inside neg of_bits
 coeffs_within c w =
     let k = known c 𝟎 𝟏 w none in (
       bounded binary64 k b0' 𝟎 𝟏 tt,
-      bounded binary64 k (mul· (lit 𝟐) b0') 𝟎 𝟐 tt,
+      bounded binary64 k (mul' (lit 𝟐) b0') 𝟎 𝟐 tt,
       bounded binary64 k b0' 𝟎 𝟏 tt,
-      bounded binary64 k (div' (mul· (lit 𝟐) (sub· (mul· (var 0) (var 0)) (lit 𝟏))) d') (neg 𝟐) 𝟎 tt,
-      bounded binary64 k (div' (add· (sub· (lit 𝟏) (mul· (lit SQRT_2) (var 0))) (mul· (var 0) (var 0))) d') (neg 𝟐) 𝟐 tt,
+      bounded binary64 k (div' (mul' (lit 𝟐) (sub' (mul' (var 0) (var 0)) (lit 𝟏))) d') (neg 𝟐) 𝟎 tt,
+      bounded binary64 k (div' (add' (sub' (lit 𝟏) (mul' (lit SQRT_2) (var 0))) (mul' (var 0) (var 0))) d') (neg 𝟐) 𝟐 tt,
     )
 
 within→finite : (k : Coeffs) → Bounded k → T (finite_coeffs k)

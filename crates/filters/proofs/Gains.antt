@@ -3,7 +3,7 @@ use Rattle.floats.specs.Prelude.{◌⊎◌, inl, inr, Bool, true, false, ◌||�
 use Rattle.floats.specs.Notation.{zero, one}
 use Rattle.floats.specs.Decimals.{ten_thousand, ten_thousandth}
 use Rattle.floats.specs.Order.{Within}
-use Rattle.floats.specs.Intervals.{Known, none, known, var, lit, neg·, sub·, div', bound, inside, bounded}
+use Rattle.floats.specs.Intervals.{Known, none, known, var, lit, neg', sub', div', bound, inside, bounded}
 use Rattle.numbers.specs.Constants.{𝟎, EXP_LIMIT}
 use Rattle.numbers.specs.Exponential.{exp}
 use Rattle.numbers.proofs.Ranges.{ranges}
@@ -20,8 +20,8 @@ at w tau ts v u = known ts (ten_thousandth w) (one w) v (known tau (ten_thousand
 
 -- ---- what the prover computes in each format
 record Computed (w : Format) : Type 0 where
-  exponent : (tau ts : Float) (v : Interval w ts) (u : Within tau (ten_thousandth w) (ten_thousand w)) → T (inside (bound w (at w tau ts v u) (div' (neg· (var 0)) (var 1))) (neg EXP_LIMIT) 𝟎)
-  rest : (e : Float) (u : Gain w e) → T (inside (bound w (known e (zero w) (one w) u none) (sub· (lit (one w)) (var 0))) (zero w) (one w))
+  exponent : (tau ts : Float) (v : Interval w ts) (u : Within tau (ten_thousandth w) (ten_thousand w)) → T (inside (bound w (at w tau ts v u) (div' (neg' (var 0)) (var 1))) (neg EXP_LIMIT) 𝟎)
+  rest : (e : Float) (u : Gain w e) → T (inside (bound w (known e (zero w) (one w) u none) (sub' (lit (one w)) (var 0))) (zero w) (one w))
 
 computed : (w : Format) → Computed w
 unfolding bound inside neg of_bits
@@ -42,5 +42,5 @@ gain_within w tau ts v u = chosen w (lt tau (zero w)) (eq tau (zero w)) _ (by_ki
     by_kind : GainConstant w tau → T (le tau (zero w)) ⊎ Gain w (sub w (one w) (exp w (div w (neg ts) tau)))
     by_kind (inl u) = inl u.1
     by_kind (inr u) =
-        let e = (ranges w).exp.within _ (bounded w (at w tau ts v u) (div' (neg· (var 0)) (var 1)) (neg EXP_LIMIT) 𝟎 ((computed w).exponent tau ts v u)) in
-        inr (bounded w (known _ (zero w) (one w) e none) (sub· (lit (one w)) (var 0)) (zero w) (one w) ((computed w).rest _ e))
+        let e = (ranges w).exp.within _ (bounded w (at w tau ts v u) (div' (neg' (var 0)) (var 1)) (neg EXP_LIMIT) 𝟎 ((computed w).exponent tau ts v u)) in
+        inr (bounded w (known _ (zero w) (one w) e none) (sub' (lit (one w)) (var 0)) (zero w) (one w) ((computed w).rest _ e))

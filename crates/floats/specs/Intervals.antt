@@ -44,18 +44,18 @@ lookup (known x lo hi w k) (suc i) = lookup k i
 pub data Expr : Type 0 where
   var : ℕ → Expr
   lit : Float → Expr
-  neg· sqr' : Expr → Expr
-  add· sub· mul· div' : Expr → Expr → Expr
+  neg' sqr' : Expr → Expr
+  add' sub' mul' div' : Expr → Expr → Expr
   ite : Bool → Expr → Expr → Expr
 
 abbrev pub eval : Format → Known → Expr → Float
 eval f k (var i) = value k i
 eval f k (lit x) = x
-eval f k (neg· a) = neg (eval f k a)
+eval f k (neg' a) = neg (eval f k a)
 eval f k (sqr' a) = mul f (eval f k a) (eval f k a)
-eval f k (add· a b) = add f (eval f k a) (eval f k b)
-eval f k (sub· a b) = sub f (eval f k a) (eval f k b)
-eval f k (mul· a b) = mul f (eval f k a) (eval f k b)
+eval f k (add' a b) = add f (eval f k a) (eval f k b)
+eval f k (sub' a b) = sub f (eval f k a) (eval f k b)
+eval f k (mul' a b) = mul f (eval f k a) (eval f k b)
 eval f k (div' a b) = div f (eval f k a) (eval f k b)
 eval f k (ite c a b) = cond c (eval f k a) (eval f k b)
 
@@ -176,11 +176,11 @@ unfoldable pub bound : Format → Known → Expr → Ival
 unfolding neg_i add_i sub_i mul_i sqr_i div_i hull_i
 bound f k (var i) = only (ends (from k i) (upto k i)) (from k i) (upto k i)
 bound f k (lit x) = only (ends x x) x x
-bound f k (neg· a) = neg_i (bound f k a)
+bound f k (neg' a) = neg_i (bound f k a)
 bound f k (sqr' a) = sqr_i f (bound f k a)
-bound f k (add· a b) = add_i f (bound f k a) (bound f k b)
-bound f k (sub· a b) = sub_i f (bound f k a) (bound f k b)
-bound f k (mul· a b) = mul_i f (bound f k a) (bound f k b)
+bound f k (add' a b) = add_i f (bound f k a) (bound f k b)
+bound f k (sub' a b) = sub_i f (bound f k a) (bound f k b)
+bound f k (mul' a b) = mul_i f (bound f k a) (bound f k b)
 bound f k (div' a b) = div_i f (bound f k a) (bound f k b)
 bound f k (ite c a b) = hull_i (bound f k a) (bound f k b)
 
@@ -292,11 +292,11 @@ pub holds : (f : Format) (k : Known) (e : Expr) → Holds (eval f k e) (bound f 
 unfolding bound
 holds f k (var i) = only_holds (value k i) (from k i) (upto k i) (ends (from k i) (upto k i)) (λ (t : T (ends (from k i) (upto k i))). let e = ends_of (from k i) (upto k i) t in (e.0, e.1, lookup k i))
 holds f k (lit x) = only_holds x x x (ends x x) (λ (t : T (ends x x)). let e = ends_of x x t in let r = le_rf x (fin_number x e.0) in (e.0, e.1, (r, r)))
-holds f k (neg· a) = neg_holds (eval f k a) (bound f k a) (holds f k a)
+holds f k (neg' a) = neg_holds (eval f k a) (bound f k a) (holds f k a)
 holds f k (sqr' a) = sqr_holds f (eval f k a) (bound f k a) (holds f k a)
-holds f k (add· a b) = add_holds f (eval f k a) (eval f k b) (bound f k a) (bound f k b) (holds f k a) (holds f k b)
-holds f k (sub· a b) = sub_holds f (eval f k a) (eval f k b) (bound f k a) (bound f k b) (holds f k a) (holds f k b)
-holds f k (mul· a b) = mul_holds f (eval f k a) (eval f k b) (bound f k a) (bound f k b) (holds f k a) (holds f k b)
+holds f k (add' a b) = add_holds f (eval f k a) (eval f k b) (bound f k a) (bound f k b) (holds f k a) (holds f k b)
+holds f k (sub' a b) = sub_holds f (eval f k a) (eval f k b) (bound f k a) (bound f k b) (holds f k a) (holds f k b)
+holds f k (mul' a b) = mul_holds f (eval f k a) (eval f k b) (bound f k a) (bound f k b) (holds f k a) (holds f k b)
 holds f k (div' a b) = div_holds f (eval f k a) (eval f k b) (bound f k a) (bound f k b) (holds f k a) (holds f k b)
 holds f k (ite c a b) = hull_holds c (eval f k a) (eval f k b) (bound f k a) (bound f k b) (holds f k a) (holds f k b)
 

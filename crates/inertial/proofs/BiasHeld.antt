@@ -1,5 +1,5 @@
 -- Each call keeps the bias within the clip: a step clips it last and stores it where it is finite, and the setter takes nothing beyond. No call changes the clip.
-use Rattle.floats.specs.Prelude.{Bool, true, false, not, cond, ◌||◌, Bool_beq, List, T, Float, Format, neg, lt, le}
+use Rattle.floats.specs.Prelude.{Bool, true, false, not, cond, ◌||◌, Bool_beq, T, Float, Format, neg, lt, le}
 use lib.Ieee.Scale as scale
 use Rattle.floats.specs.Notation.{zero}
 use Rattle.floats.specs.Tests.{both, keeps}
@@ -19,13 +19,12 @@ use Rattle.inertial.specs.Kalman.{finite_bias, updated_bias, rotation, smoothed,
 use Rattle.inertial.specs.Setup.{taken, fresh_state, new}
 use Rattle.inertial.specs.Setters as setters
 use Rattle.inertial.specs.HowFar.{AllWithin}
-use Rattle.inertial.specs.Calls.{Call, run}
 use Rattle.inertial.specs.Answers.{acc_rest_of, inclination_of, bias_of}
 use Rattle.inertial.specs.Types.{Bias, Inertial, InertialParams, Measurement, Smooth, KalmanStep, TriedBias}
 use Rattle.inertial.specs.declared.kalman.KalmanStep.TheVariants.{TooSmall, NotFinite, Next}
 use Rattle.inertial.proofs.Construction.{opened}
 use Rattle.inertial.proofs.BiasLimit.{limit_within}
-use Rattle.inertial.proofs.Invariants.{Invariant, reached}
+use Rattle.inertial.proofs.Invariants.{Invariant}
 
 -- ---- what is clipped to ±c, and the origin
 module _ (c : Float) (h : T (le nought c)) where
@@ -111,7 +110,7 @@ module _ (w : Format) where
         (λ _. updated_clipped clip from b s _ h.1 (estimated_clipped clip from b.bias (widened w b.bias_p f.coeffs.bias) m h.1))
         (λ _. h.1)
 
-  held : Invariant w Held
+  pub held : Invariant w Held
   unfolding setters.adapted_bias setters.set_motion_bias_est_enabled setters.set_rest_bias_est_enabled setters.set_mag_dist_rejection_enabled setters.with_estimate setters.reset_state fresh_state
   held = record {
     built = new_held;
@@ -125,6 +124,3 @@ module _ (w : Format) where
     bias = λ f h v sigma t. (h.0, ((both (setters.bias_taken w f.params.rest.bias_clip v) (setters.sigma_or_none_taken w sigma)).0 t).0);
     reset = λ f h. (h.0, origin_within _ (from f h) w);
   }
-
-  pub reached_held : (p : InertialParams) (gyr_ts acc_ts : Float) (cs : List Call) → T (taken w p gyr_ts acc_ts) → Held (run w (new w p gyr_ts acc_ts) cs)
-  reached_held = reached w Held held

@@ -6,7 +6,7 @@ use Rattle.floats.specs.Decimals.{half_turn}
 use Rattle.floats.specs.Tests.{both, keeps}
 use Rattle.floats.specs.Order.{nought, Within, within_finite, each_finite}
 use Rattle.floats.specs.Products.{finite_number}
-use Rattle.floats.specs.Intervals.{none, known, Expr, var, lit, mul·, div', bound, inside, bounded}
+use Rattle.floats.specs.Intervals.{none, known, Expr, var, lit, mul', div', bound, inside, bounded}
 use Rattle.algebra.specs.declared.vector.Vector.{Vector}
 use Rattle.limits.specs.Limits.{threshold_taken, least_threshold, threshold_limit}
 use Rattle.limits.specs.BySize.{beyond, all_numbers}
@@ -25,7 +25,7 @@ use Rattle.inertial.proofs.RestHistory.{rest_from_history}
 
 -- ---- the limit
 abbrev radians' : Format → Expr
-radians' w = mul· (var 0) (div' (lit (pi w)) (lit (half_turn w)))
+radians' w = mul' (var 0) (div' (lit (pi w)) (lit (half_turn w)))
 
 abbrev pub quarter : Format → Float
 quarter w = div w (pi w) (two w)

@@ -6,7 +6,7 @@ use Rattle.floats.specs.Definitions.{larger}
 use Rattle.floats.specs.Tests.{both}
 use Rattle.floats.specs.Order.{number, le_tr, le→number, Within, between_finite}
 use Rattle.floats.specs.Clamps.{larger_from_first, larger_from_second, larger_up_to}
-use Rattle.floats.specs.Intervals.{Known, none, known, Expr, var, lit, mul·, div', add·, eval, bound, good, is_finite}
+use Rattle.floats.specs.Intervals.{Known, none, known, Expr, var, lit, mul', div', add', eval, bound, good, is_finite}
 use Rattle.algebra.specs.Vectors as vectors
 use Rattle.algebra.specs.Quaternions as quaternions
 use Rattle.algebra.specs.Matrices as matrices
@@ -79,18 +79,18 @@ module _ (w : Format) where
 
 -- ---- the numbers of the bias
 abbrev square' : Expr → Expr
-square' e = mul· e e
+square' e = mul' e e
 
 module _ (w : Format) where
   -- acc_ts is the first value, the forgetting time the second, a sigma the third, the factor the fourth
   abbrev v' : Expr
-  v' = div' (mul· (square' (mul· (lit (tenth w)) (lit (hundred w)))) (var 0)) (var 1)
+  v' = div' (mul' (square' (mul' (lit (tenth w)) (lit (hundred w)))) (var 0)) (var 1)
 
   abbrev p' : Expr
-  p' = square' (mul· (var 2) (lit (hundred w)))
+  p' = square' (mul' (var 2) (lit (hundred w)))
 
   abbrev w' : Expr
-  w' = add· (div' (square' p') v') p'
+  w' = add' (div' (square' p') v') p'
 
   abbrev Values : Float → Float → Float → Float → Type 0
   Values ts t s g = Interval w ts × Within t (least_forgetting_time w) (longest w) × SigmaTaken w s × Within g (ten_billionth w) (one w)

@@ -4,7 +4,7 @@ use Rattle.floats.specs.Notation.{zero, pi}
 use Rattle.floats.specs.Decimals.{hundred, half_turn}
 use Rattle.floats.specs.Tests.{both, keeps}
 use Rattle.floats.specs.Order.{nought, Within, within_finite, between_finite, neg_finite}
-use Rattle.floats.specs.Intervals.{none, known, Expr, var, lit, mul·, div', bound, is_finite}
+use Rattle.floats.specs.Intervals.{none, known, Expr, var, lit, mul', div', bound, is_finite}
 use Rattle.algebra.specs.Vectors as vectors
 use Rattle.algebra.specs.Matrices as matrices
 use Rattle.algebra.specs.declared.vector.Vector.{Vector}
@@ -33,12 +33,12 @@ abbrev Left : Told Inertial → Type 0
 Left t = Fine t.left
 
 abbrev scaled' : Format → Expr
-scaled' w = mul· (var 0) (div' (mul· (lit (half_turn w)) (lit (hundred w))) (lit (pi w)))
+scaled' w = mul' (var 0) (div' (mul' (lit (half_turn w)) (lit (hundred w))) (lit (pi w)))
 
 variance_finite : (w : Format) (s : Float) → T (sigma_taken w s) → T (finite (variance w s))
 unfolding variance bound le of_bits
-variance_finite binary32 s t = let h = simp both at t in is_finite binary32 (known s (zero binary32) (sigma_limit binary32) h none) (mul· (scaled' binary32) (scaled' binary32)) tt
-variance_finite binary64 s t = let h = simp both at t in is_finite binary64 (known s (zero binary64) (sigma_limit binary64) h none) (mul· (scaled' binary64) (scaled' binary64)) tt
+variance_finite binary32 s t = let h = simp both at t in is_finite binary32 (known s (zero binary32) (sigma_limit binary32) h none) (mul' (scaled' binary32) (scaled' binary32)) tt
+variance_finite binary64 s t = let h = simp both at t in is_finite binary64 (known s (zero binary64) (sigma_limit binary64) h none) (mul' (scaled' binary64) (scaled' binary64)) tt
 
 -- ---- settings; flags are no numbers
 with_rest : (p : InertialParams) (r : RestParams) → T (finite_params p) → T (finite_rest_params r) → T (finite_params (with_rest_params p r))

@@ -8,6 +8,7 @@ pub mod BiasLimit
 pub mod FiniteCalls
 pub mod Invariants
 pub mod BiasHeld
+pub mod BiasReached
 pub mod CountsHeld
 pub mod Sound
 pub mod Sigma

@@ -6,7 +6,7 @@ use Rattle.floats.specs.Definitions.{magnitude, larger, smaller}
 use Rattle.floats.specs.Tests.{both}
 use Rattle.floats.specs.Order.{nought, le→number, Within, within_finite, each_finite}
 use Rattle.floats.specs.Products.{mul_mono, finite_number}
-use Rattle.floats.specs.Intervals.{none, known, Expr, var, lit, mul·, div', bound, inside, good, bounded, is_finite}
+use Rattle.floats.specs.Intervals.{none, known, Expr, var, lit, mul', div', bound, inside, good, bounded, is_finite}
 use Rattle.floats.proofs.FromZero.{magnitude_from, sum_from, larger_is, smaller_is, smaller_up_to}
 use Rattle.numbers.specs.Root.{root}
 use Rattle.numbers.proofs.RootOrder.{root_limit, root_within, root_up_to}
@@ -41,7 +41,7 @@ unit' w = div' (div' (lit (pi w)) (lit (hundred w))) (lit (half_turn w))
 record Computed (w : Format) : Type 0 where
   unit_within : T (inside (bound w none (unit' w)) nought (pi w))
   unit_finite : T (good (bound w none (unit' w)))
-  scaled_from : (x : Float) (v : Within x nought (root_limit w)) → T (inside (bound w (known x nought (root_limit w) v none) (mul· (var 0) (unit' w))) (zero w) (root_limit w))
+  scaled_from : (x : Float) (v : Within x nought (root_limit w)) → T (inside (bound w (known x nought (root_limit w) v none) (mul' (var 0) (unit' w))) (zero w) (root_limit w))
 
 computed : (w : Format) → Computed w
 unfolding bound inside le of_bits
@@ -87,7 +87,7 @@ module _ (w : Format) (f : Inertial) (h : T (all_finite f)) (k : Sound w f) wher
       let root_p0 = root_within w p0 p0_fit.0 of_p0 p0_fit.1 in
       let grows = root_up_to w least p0 l.0 p0_fit.0 of_p0 l.1 in
       let r = known (root w least) nought (root_limit w) root_least none in (
-        (bounded w r (mul· (var 0) (unit' w)) (zero w) (root_limit w) (c.scaled_from _ root_least)).0,
+        (bounded w r (mul' (var 0) (unit' w)) (zero w) (root_limit w) (c.scaled_from _ root_least)).0,
         mul_mono w (root w least) (root w p0) (unit w) (small _ root_least) (small _ root_p0) (is_finite w none (unit' w) c.unit_finite) u.0 grows.1,
       )
 
@@ -95,5 +95,5 @@ module _ (w : Format) (f : Inertial) (h : T (all_finite f)) (k : Sound w f) wher
   unfolding bias_estimate
   sigma_finite =
       let r = known (root w least) nought (root_limit w) root_least none in
-      let b = bounded w r (mul· (var 0) (unit' w)) (zero w) (root_limit w) ((computed w).scaled_from _ root_least) in
+      let b = bounded w r (mul' (var 0) (unit' w)) (zero w) (root_limit w) ((computed w).scaled_from _ root_least) in
       within_finite _ (zero w) (root_limit w) (unfold of_bits in each_finite zero tt w) tt b

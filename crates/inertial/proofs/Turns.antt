@@ -2,7 +2,7 @@
 use Rattle.floats.specs.Prelude.{T, Float, Format, binary32, binary64, of_bits, add, sub, div, neg, le}
 use Rattle.floats.specs.Tests.{both}
 use Rattle.floats.specs.Order.{Within, widen, neg_le}
-use Rattle.floats.specs.Intervals.{none, known, var, sub·, bound, inside, bounded}
+use Rattle.floats.specs.Intervals.{none, known, var, sub', bound, inside, bounded}
 use Rattle.numbers.specs.HalfAngles.{fastest}
 use Rattle.numbers.proofs.HalfAngles.{Rate}
 use Rattle.algebra.specs.declared.vector.Vector.{Vector}
@@ -14,13 +14,14 @@ use Rattle.inertial.specs.Calls.{run}
 use Rattle.inertial.specs.Turns.{rate, Turns}
 use Rattle.inertial.specs.declared.types.Inertial.{Inertial}
 use Rattle.inertial.proofs.BiasLimit.{quarter, limit_within}
-use Rattle.inertial.proofs.BiasHeld.{Held, reached_held}
+use Rattle.inertial.proofs.BiasHeld.{Held}
+use Rattle.inertial.proofs.BiasReached.{reached_held}
 use Rattle.inertial.proofs.Sound.{reached_sound}
 
 difference : (w : Format) (x b : Float) → Within x (neg (gyr_limit w)) (gyr_limit w) → Within b (neg (quarter w)) (quarter w) → Rate w (sub w x b)
 unfolding bound inside add div neg le of_bits
-difference binary32 x b p q = bounded binary32 (known x (neg (gyr_limit binary32)) (gyr_limit binary32) p (known b (neg (quarter binary32)) (quarter binary32) q none)) (sub· (var 0) (var 1)) (neg (fastest binary32)) (fastest binary32) tt
-difference binary64 x b p q = bounded binary64 (known x (neg (gyr_limit binary64)) (gyr_limit binary64) p (known b (neg (quarter binary64)) (quarter binary64) q none)) (sub· (var 0) (var 1)) (neg (fastest binary64)) (fastest binary64) tt
+difference binary32 x b p q = bounded binary32 (known x (neg (gyr_limit binary32)) (gyr_limit binary32) p (known b (neg (quarter binary32)) (quarter binary32) q none)) (sub' (var 0) (var 1)) (neg (fastest binary32)) (fastest binary32) tt
+difference binary64 x b p q = bounded binary64 (known x (neg (gyr_limit binary64)) (gyr_limit binary64) p (known b (neg (quarter binary64)) (quarter binary64) q none)) (sub' (var 0) (var 1)) (neg (fastest binary64)) (fastest binary64) tt
 
 rates : (w : Format) (f : Inertial) (gyr : Vector) → Held w f → T (gyr_taken w gyr) → Rates w (rate w f gyr)
 unfolding all_within

@@ -1,14 +1,14 @@
 -- The heading keeps within ±PI: of two angles within ±PI the one is at most 2 PI from the other, rounding included, and a wrap takes 2 PI off, which is
 -- no rounded number. The gain keeps within 0 and 1, whatever rejects or lifts it. Where there is no angle, the step finds no finite heading.
-use Rattle.floats.specs.Prelude.{◌≡◌, refl, sym, subst, ap, ◌∙◌, ◌⊎◌, inl, inr, ◌&&◌, T, Float, nan, Format, binary32, binary64, add, sub, mul, neg, lt, le, eq, ne, fits, of_bits, add-fits, sub-fits, cond-fits, finite}
-use Rattle.floats.specs.Notation.{rounded, zero, one, two, pi}
+use Rattle.floats.specs.Prelude.{◌≡◌, refl, sym, subst, ap, ◌∙◌, ◌⊎◌, inl, inr, ◌&&◌, T, Float, nan, Format, sub, neg, lt, le, eq, ne, fits, add-fits, sub-fits, cond-fits, finite}
+use Rattle.floats.specs.Notation.{rounded, zero, one, pi}
 use Rattle.floats.specs.Tests.{both, either, is_false, keeps}
 use Rattle.floats.specs.Fractions.{or_r}
 use Rattle.floats.specs.Order.{nought, number, le_tr, le_rf, lt→le, lt→nle, nlt→le, le→number, Within, widen, within_finite, neg_finite}
 use Rattle.floats.specs.Sums.{add_within}
 use Rattle.floats.specs.Products.{mul_mono, mul_sym, finite_number}
 use Rattle.floats.specs.Clamps.{cond_within}
-use Rattle.floats.specs.Intervals.{Known, none, known, Expr, var, lit, add·, sub·, mul·, div', bound, inside, bounded}
+use Rattle.floats.specs.Intervals.{none, known, var, lit, add', sub', mul', div', bounded}
 use Rattle.floats.proofs.FromZero.{zero_level}
 use Rattle.floats.proofs.Chosen.{chosen}
 use Rattle.floats.proofs.Kept.{plus_nought, mul_neg}
@@ -18,41 +18,7 @@ use Rattle.limits.specs.Limits.{rejection_factor_limit}
 use Rattle.magnetic.specs.Headings.{wrapped, rejected, lifted, next_init, corrected, finite_heading}
 use Rattle.magnetic.specs.HowFar.{Angle, Moved}
 use Rattle.magnetic.specs.Types.{Field, Heading, MagneticCoefficients, MagneticParams, Rejection}
-
--- ---- what the prover computes in each format
-module _ (w : Format) where
-  abbrev turn : Float
-  turn = mul w (two w) (pi w)
-
-  abbrev pub Factor : Float → Type 0
-  Factor r = Within r (one w) (rejection_factor_limit w)
-
-  abbrev angle : (x : Float) → Angle w x → Known → Known
-  angle x v = known x (neg (pi w)) (pi w) v
-
-  abbrev gain : (k : Float) → Gain w k → Known → Known
-  gain k v = known k (zero w) (one w) v
-
-  abbrev Inside : Known → Expr → Float → Float → Type 0
-  Inside k e lo hi = T (inside (bound w k e) lo hi)
-
-  record Computed : Type 0 where
-    wrapped_down : (x : Float) (v : Within x (pi w) turn) → Inside (known x (pi w) turn v none) (sub· (var 0) (lit turn)) (neg (pi w)) (pi w)
-    wrapped_up : (x : Float) (v : Within x (neg turn) (neg (pi w))) → Inside (known x (neg turn) (neg (pi w)) v none) (add· (var 0) (lit turn)) (neg (pi w)) (pi w)
-    apart : (a d : Float) (u : Angle w a) (v : Angle w d) → Inside (angle a u (angle d v none)) (sub· (var 0) (var 1)) (neg turn) turn
-    gone : (d k a : Float) (u : Angle w d) (v : Gain w k) (t : Angle w a) → Inside (angle d u (gain k v (angle a t none))) (add· (var 0) (mul· (var 1) (var 2))) (neg turn) turn
-    nowhere : (k a : Float) (v : Within k nought nought) (t : Angle w a) → Inside (known k nought nought v (angle a t none)) (mul· (var 0) (var 1)) nought nought
-    lessened : (k r : Float) (u : Gain w k) (v : Factor r) → Inside (gain k u (known r (one w) (rejection_factor_limit w) v none)) (div' (var 0) (var 1)) (zero w) (one w)
-    next : (k : Float) (u : Gain w k) → Inside (gain k u none) (div' (var 0) (add· (var 0) (lit (one w)))) (zero w) (one w)
-    largest : (k : Float) (u : Gain w k) → Inside (gain k u none) (mul· (var 0) (lit (pi w))) (zero w) (pi w)
-    ends : T (finite (neg (pi w))) × T (finite (pi w))
-    units : T (finite (zero w)) × T (finite (one w))
-    no_angle : (d : Float) → wrapped w (sub w nan d) ≡ nan
-
-computed : (w : Format) → Computed w
-unfolding bound inside neg mul le of_bits
-computed binary32 = record { wrapped_down = λ x v. tt; wrapped_up = λ x v. tt; apart = λ a d u v. tt; gone = λ d k a u v t. tt; nowhere = λ k a v t. tt; lessened = λ k r u v. tt; next = λ k u. tt; largest = λ k u. tt; ends = (tt, tt); units = (tt, tt); no_angle = λ d. unfold wrapped sub add lt in refl }
-computed binary64 = record { wrapped_down = λ x v. tt; wrapped_up = λ x v. tt; apart = λ a d u v. tt; gone = λ d k a u v t. tt; nowhere = λ k a v t. tt; lessened = λ k r u v. tt; next = λ k u. tt; largest = λ k u. tt; ends = (tt, tt); units = (tt, tt); no_angle = λ d. unfold wrapped sub add lt in refl }
+use Rattle.magnetic.proofs.HeadingComputed.{turn, Factor, angle, gain, computed}
 
 module _ (w : Format) where
   open rounded w use {◌⊕◌, ◌⊖◌, ◌⊗◌, ◌⊘◌}
@@ -67,9 +33,9 @@ module _ (w : Format) where
       let n = (le→number (neg (turn w)) x v.0).1 in
       let e = ends_numbers in
       chosen (Angle w) (lt (pi w) x) _ _
-      (λ t. bounded w (known x (pi w) (turn w) (lt→le (pi w) x t, v.1) none) (sub· (var 0) (lit (turn w))) (neg (pi w)) (pi w) ((computed w).wrapped_down x _))
+      (λ t. bounded w (known x (pi w) (turn w) (lt→le (pi w) x t, v.1) none) (sub' (var 0) (lit (turn w))) (neg (pi w)) (pi w) ((computed w).wrapped_down x _))
       (λ s. chosen (Angle w) (lt x (neg (pi w))) _ x
-      (λ t. bounded w (known x (neg (turn w)) (neg (pi w)) (v.0, lt→le x (neg (pi w)) t) none) (add· (var 0) (lit (turn w))) (neg (pi w)) (pi w) ((computed w).wrapped_up x _))
+      (λ t. bounded w (known x (neg (turn w)) (neg (pi w)) (v.0, lt→le x (neg (pi w)) t) none) (add' (var 0) (lit (turn w))) (neg (pi w)) (pi w) ((computed w).wrapped_up x _))
       (λ t. (nlt→le x (neg (pi w)) n e.0 t, nlt→le (pi w) x e.1 n s)))
 
   wrapped_fits : (x : Float) → T (fits w x) → T (fits w (wrapped w x))
@@ -89,7 +55,7 @@ module _ (w : Format) where
   unfolding next_init
   next_within init tau ts v =
       let next = init ⊘ (init ⊕ one w) in
-      let h = bounded w (gain w init v none) (div' (var 0) (add· (var 0) (lit (one w)))) (zero w) (one w) ((computed w).next init v) in
+      let h = bounded w (gain w init v none) (div' (var 0) (add' (var 0) (lit (one w)))) (zero w) (one w) ((computed w).next init v) in
       cond_within (ne init (zero w)) _ init (zero w) (one w) (cond_within (lt (next ⊗ tau) ts) (zero w) next (zero w) (one w) (none_or_all w).0 h) v
 
   pub rejected_within : (f : Field) (p : MagneticParams) (c : MagneticCoefficients) → Gain w c.k_mag → Factor w p.mag_rejection_factor → Gain w (rejected w f p c).k
@@ -114,8 +80,8 @@ module _ (w : Format) where
       absurd (subst (λ (x : Float). T (finite x)) (ap (λ (x : Float). wrapped w (x ⊖ h.delta)) e ∙ (computed w).no_angle h.delta) (simp both at t).0.1)
   corrected_held h a k tau ts (inr u) v d t =
       let used = lifted_within k h.k_mag_init v d.3 in
-      let dis : Angle w (wrapped w (a ⊖ h.delta)) = wrapped_within _ (bounded w (angle w a u (angle w h.delta d.0 none)) (sub· (var 0) (var 1)) _ _ ((computed w).apart a h.delta u d.0)) in
-      let to = bounded w (angle w h.delta d.0 (gain w _ used (angle w _ dis none))) (add· (var 0) (mul· (var 1) (var 2))) _ _ ((computed w).gone h.delta _ _ d.0 used dis) in
+      let dis : Angle w (wrapped w (a ⊖ h.delta)) = wrapped_within _ (bounded w (angle w a u (angle w h.delta d.0 none)) (sub' (var 0) (var 1)) _ _ ((computed w).apart a h.delta u d.0)) in
+      let to = bounded w (angle w h.delta d.0 (gain w _ used (angle w _ dis none))) (add' (var 0) (mul' (var 1) (var 2))) _ _ ((computed w).gone h.delta _ _ d.0 used dis) in
       (wrapped_within _ to, wrapped_fits _ (add-fits w _ _), dis, next_within h.k_mag_init tau ts d.3)
 
   -- ---- how far it goes
@@ -142,13 +108,13 @@ module _ (w : Format) where
     at_most : Within (d ⊕ k ⊗ a) (d ⊖ k ⊗ pi w) (d ⊕ k ⊗ pi w)
     unfolding sub
     at_most =
-        let r = within_finite (k ⊗ pi w) (zero w) (pi w) (computed w).units.0 (computed w).ends.1 (bounded w (gain w k v none) (mul· (var 0) (lit (pi w))) (zero w) (pi w) ((computed w).largest k v)) in
+        let r = within_finite (k ⊗ pi w) (zero w) (pi w) (computed w).units.0 (computed w).ends.1 (bounded w (gain w k v none) (mul' (var 0) (lit (pi w))) (zero w) (pi w) ((computed w).largest k v)) in
         add_within w d (k ⊗ a) d d (neg (k ⊗ pi w)) (k ⊗ pi w) d_finite d_finite (neg_finite (k ⊗ pi w) r) r itself reach
 
     stays : T (fits w d) → T (eq k (zero w)) → T (eq (wrapped w (d ⊕ k ⊗ a)) d)
     stays f z =
         let k_nought : Within k nought nought = (le_tr nought (zero w) k (zero_level w).0 v.0, le_tr k (zero w) nought (unfold le in or_r (lt k (zero w)) (eq k (zero w)) z) (zero_level w).1) in
-        let step = bounded w (known k nought nought k_nought (angle w a t none)) (mul· (var 0) (var 1)) nought nought ((computed w).nowhere k a k_nought t) in
+        let step = bounded w (known k nought nought k_nought (angle w a t none)) (mul' (var 0) (var 1)) nought nought ((computed w).nowhere k a k_nought t) in
         let sum = add_within w d (k ⊗ a) d d nought nought d_finite d_finite tt tt itself step in
         let same = plus_nought w d f d_finite in
         let at : Within (d ⊕ k ⊗ a) d d = widen _ _ _ d d same.0 same.1 sum in

@@ -3,6 +3,7 @@ pub mod Construction
 pub mod Tested
 pub mod FiniteCalls
 pub mod Answers
+pub mod HeadingComputed
 pub mod HeadingHeld
 pub mod TimesHeld
 pub mod HowFar

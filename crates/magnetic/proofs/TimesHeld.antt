@@ -9,7 +9,7 @@ use Rattle.floats.specs.Order.{nought, le_tr, le_rf, le→number, Within, within
 use Rattle.floats.specs.Sums.{add_mono}
 use Rattle.floats.specs.Products.{finite_number}
 use Rattle.floats.specs.Clamps.{larger_from_first, larger_up_to}
-use Rattle.floats.specs.Intervals.{none, known, var, add·, mul·, bound, inside, bounded, good, is_finite}
+use Rattle.floats.specs.Intervals.{none, known, var, add', mul', bound, inside, bounded, good, is_finite}
 use Rattle.floats.proofs.FromZero.{zero_level, zero_from, sum_from_zero}
 use Rattle.floats.proofs.Kept.{plus_nought}
 use Rattle.algebra.specs.declared.vector.Vector.{Vector}
@@ -25,7 +25,7 @@ use Rattle.magnetic.specs.Setup.{restarted_field}
 use Rattle.magnetic.specs.Told.{with_reject_t}
 use Rattle.magnetic.specs.Types.{Field, MagneticCoefficients, MagneticParams, NormDip, Smoothing, Rejection}
 use Rattle.magnetic.specs.declared.types.Smoothing.TheVariants.{Absent, Present}
-use Rattle.magnetic.proofs.HeadingHeld.{Factor}
+use Rattle.magnetic.proofs.HeadingComputed.{Factor}
 
 -- ---- what the prover computes in each format
 module _ (w : Format) where
@@ -34,9 +34,9 @@ module _ (w : Format) where
 
   record Computed : Type 0 where
     interval : (ts : Float) (v : Interval w ts) → T (good (bound w (known ts (ten_thousandth w) (one w) v none) (var 0)))
-    limit : (t ts : Float) (u : Duration t) (v : Interval w ts) → T (good (bound w (known t (zero w) (ten_thousand w) u (known ts (ten_thousandth w) (one w) v none)) (add· (var 0) (var 1))))
+    limit : (t ts : Float) (u : Duration t) (v : Interval w ts) → T (good (bound w (known t (zero w) (ten_thousand w) u (known ts (ten_thousandth w) (one w) v none)) (add' (var 0) (var 1))))
     taken_off : (r ts : Float) (u : Factor w r) (v : Interval w ts)
-        → T (inside (bound w (known r (one w) (rejection_factor_limit w) u (known ts (ten_thousandth w) (one w) v none)) (mul· (var 0) (var 1))) nought (rejection_factor_limit w))
+        → T (inside (bound w (known r (one w) (rejection_factor_limit w) u (known ts (ten_thousandth w) (one w) v none)) (mul' (var 0) (var 1))) nought (rejection_factor_limit w))
     zero_finite : T (finite (zero w))
     longest_finite : T (finite (ten_thousand w))
     factor_finite : T (finite (rejection_factor_limit w))
@@ -85,7 +85,7 @@ module _ (w : Format) (p : MagneticParams) (c : MagneticCoefficients) where
 
     limit_finite : T (finite limit)
     limit_finite =
-        is_finite w (known p.mag_max_rejection_time (zero w) (ten_thousand w) s.longest (known c.mag_ts (ten_thousandth w) (one w) s.interval none)) (add· (var 0) (var 1))
+        is_finite w (known p.mag_max_rejection_time (zero w) (ten_thousand w) s.longest (known c.mag_ts (ten_thousandth w) (one w) s.interval none)) (add' (var 0) (var 1))
         ((computed w).limit _ _ s.longest s.interval)
 
     pub restarted_held : (x : NormDip) → TimesHeld (restarted_field w p x)
@@ -139,7 +139,7 @@ module _ (w : Format) (p : MagneticParams) (c : MagneticCoefficients) where
     taken_off t v =
         let x = p.mag_rejection_factor ⊗ c.mag_ts in
         let e = computed w in
-        let b = bounded w (known p.mag_rejection_factor (one w) (rejection_factor_limit w) s.factor (known c.mag_ts (ten_thousandth w) (one w) s.interval none)) (mul· (var 0) (var 1)) nought (rejection_factor_limit w) ((computed w).taken_off _ _ s.factor s.interval) in
+        let b = bounded w (known p.mag_rejection_factor (one w) (rejection_factor_limit w) s.factor (known c.mag_ts (ten_thousandth w) (one w) s.interval none)) (mul' (var 0) (var 1)) nought (rejection_factor_limit w) ((computed w).taken_off _ _ s.factor s.interval) in
         let x_finite = within_finite x nought (rejection_factor_limit w) tt e.factor_finite b in
         let t_finite = within_finite t (zero w) limit e.zero_finite limit_finite v in
         let off = le_tr (neg x) (neg nought) nought (neg_le nought x b.0) (unfold le neg in tt) in
@@ -161,8 +161,8 @@ module _ (w : Format) (p : MagneticParams) (c : MagneticCoefficients) where
         (record { rejecting = λ u. taken_off t (h.rejecting u); undisturbed = h.undisturbed; candidate = h.candidate; counts = h.counts })
 
 -- ---- the filter of norm and dip, absent or present
-module _ (w : Format) (p : MagneticParams) (c : MagneticCoefficients) (f : Field) (x : NormDip) (tau ts k k-ref : Float) where
-  smoothed_held : (s : Smoothing) → TimesHeld w p c f → TimesHeld w p c (smoothed w f x tau (record { mag_ts = ts; k_mag = k; k_mag_ref = k-ref; mag_norm_dip_lp = s }))
+module _ (w : Format) (p : MagneticParams) (c : MagneticCoefficients) (f : Field) (x : NormDip) (tau ts k k_ref : Float) where
+  smoothed_held : (s : Smoothing) → TimesHeld w p c f → TimesHeld w p c (smoothed w f x tau (record { mag_ts = ts; k_mag = k; k_mag_ref = k_ref; mag_norm_dip_lp = s }))
   unfolding smoothed filter_vec2
   smoothed_held Absent h = h
   smoothed_held (Present q) h = record { rejecting = h.rejecting; undisturbed = h.undisturbed; candidate = h.candidate; counts = channels_from_zero w 2 _ tau ts q f.mag_norm_dip_lp_state h.counts }

@@ -3,7 +3,7 @@
 use Rattle.floats.specs.Prelude.{T, Float, Format, binary32, binary64, of_bits, add, mul, div, neg, le, add-fits, finite}
 use Rattle.floats.specs.Notation.{zero, one, two}
 use Rattle.floats.specs.Order.{nought, Within}
-use Rattle.floats.specs.Intervals.{Known, none, known, Expr, var, lit, sqr', add·, mul·, div', bound, inside, bounded}
+use Rattle.floats.specs.Intervals.{Known, none, known, Expr, var, lit, sqr', add', mul', div', bound, inside, bounded}
 use Rattle.numbers.specs.Constants.{ANGLE_LIMIT}
 use Rattle.numbers.specs.Root.{root}
 use Rattle.numbers.specs.HalfAngles.{fastest, largest, HalfAngles}
@@ -13,10 +13,10 @@ abbrev pub squares : Format → Float → Float → Float → Float
 squares w x y z = add w (add w (add w (zero w) (mul w x x)) (mul w y y)) (mul w z z)
 
 abbrev squares' : Format → Expr
-squares' w = add· (add· (add· (lit (zero w)) (sqr' (var 0))) (sqr' (var 1))) (sqr' (var 2))
+squares' w = add' (add' (add' (lit (zero w)) (sqr' (var 0))) (sqr' (var 1))) (sqr' (var 2))
 
 abbrev half' : Format → Expr
-half' w = div' (mul· (var 0) (var 1)) (lit (two w))
+half' w = div' (mul' (var 0) (var 1)) (lit (two w))
 
 abbrev pub Rate : Format → Float → Type 0
 Rate w x = Within x (neg (fastest w)) (fastest w)

@@ -2,36 +2,41 @@
 // each. With a number on the standard input it draws that many times in place of 1000.
 // The file stdout was written by oracle/roots.rs, which takes the same floats to another root.
 #![tactic(auto)]
-use libc::{STDERR_FILENO, STDIN_FILENO, STDOUT_FILENO};
+
+use std::alloc::Global;
+use std::io;
+use std::io::{Read, Stdin, Stdout};
 
 // From 1 to the next float.
 const EPSILON: f64 = 2.220446049250313e-16;
 
 // The bits of the root of the float with the bits x.
-fn put(x: u64) {
+fn put(stdout: Stdout, x: u64) -> io::Result<()> {
     let root = numbers::sqrt(floats::from_bits(x));
-    io::print_hex(STDOUT_FILENO, floats::to_bits(root), 16);
-    io::write_all(STDOUT_FILENO, b"\n");
+    let bits = floats::to_bits(root);
+    println!(stdout; "{bits:016x}")
 }
 
 // A float and its two neighbours.
-fn put_about(x: u64) {
-    put(std::num::wrapping_sub_u64(x, 1));
-    put(x);
-    put(std::num::wrapping_add_u64(x, 1));
+fn put_about(stdout: Stdout, x: u64) -> io::Result<()> {
+    put(stdout, std::num::wrapping_sub_u64(x, 1))?;
+    put(stdout, x)?;
+    put(stdout, std::num::wrapping_add_u64(x, 1))
 }
 
 // The powers of two, and so of four, that are normal, and the infinity.
-fn powers() {
+fn powers(stdout: Stdout) -> io::Result<()> {
     for field in 1..2048u64 {
-        put_about(field << 52);
+        put_about(stdout, field << 52)?;
     }
+    Ok(())
 }
 
-fn subnormals() {
+fn subnormals(stdout: Stdout) -> io::Result<()> {
     for place in 0..52u64 {
-        put_about(1 << place);
+        put_about(stdout, 1 << place)?;
     }
+    Ok(())
 }
 
 fn next(s: u64) -> u64 {
@@ -41,30 +46,31 @@ fn next(s: u64) -> u64 {
 }
 
 // Any bits; a sign that is clear; a small exponent; a short significand; next to a power of two.
-fn drawn(count: u64) {
+fn drawn(stdout: Stdout, count: u64) -> io::Result<()> {
     let mut s = 0x9e37_79b9_7f4a_7c15;
     for n in 0..count {
         s = next(s);
-        put(s);
-        put(s >> 1);
-        put(s >> 14);
-        put((s >> 12) << 12);
-        put_about((s >> 1) | 0xf_ffff_ffff_fffe);
+        put(stdout, s)?;
+        put(stdout, s >> 1)?;
+        put(stdout, s >> 14)?;
+        put(stdout, (s >> 12) << 12)?;
+        put_about(stdout, (s >> 1) | 0xf_ffff_ffff_fffe)?;
     }
+    Ok(())
 }
 
 // About the square of the middle between r and the next float, which is step away.
-fn put_middle(r: f64, step: f64) {
-    put_about(floats::to_bits(r * r + r * step));
+fn put_middle(stdout: Stdout, r: f64, step: f64) -> io::Result<()> {
+    put_about(stdout, floats::to_bits(r * r + r * step))
 }
 
 // About the squares of a float, of its first 26 digits, whose root is exact, and of the middle above.
-fn put_squares(r: u64) {
+fn put_squares(stdout: Stdout, r: u64) -> io::Result<()> {
     let x = floats::from_bits(r);
     let short = floats::from_bits((r >> 27) << 27);
-    put_about(floats::to_bits(x * x));
-    put_about(floats::to_bits(short * short));
-    put_middle(x, floats::from_bits((r >> 52) << 52) * EPSILON);
+    put_about(stdout, floats::to_bits(x * x))?;
+    put_about(stdout, floats::to_bits(short * short))?;
+    put_middle(stdout, x, floats::from_bits((r >> 52) << 52) * EPSILON)
 }
 
 // A q below 2^52 with q * q + q equal to t modulo 2^52, for an even t. It is found digit by digit:
@@ -86,43 +92,45 @@ fn middle(t: u64) -> u64 {
 // About the square of a middle between two floats from 1 up to 2. A square below 2, and every other
 // one above, has a root that lies below the middle by t * 2^-53 of a step, or half that; above it
 // where t stands for a negative number.
-fn put_hard(t: u64) {
+fn put_hard(stdout: Stdout, t: u64) -> io::Result<()> {
     put_middle(
+        stdout,
         floats::from_bits(middle(t) | 0x3ff0_0000_0000_0000),
         EPSILON,
-    );
+    )
 }
 
 // Squares of any float from 2^-511 up to 2^513; about roots that mostly lie next to a middle; and a
 // number within 2^28 steps of 1.
-fn put_close(s: u64, t: u64) {
-    put_squares((s >> 12) | (((t >> 54) + 512) << 52));
+fn put_close(stdout: Stdout, s: u64, t: u64) -> io::Result<()> {
+    put_squares(stdout, (s >> 12) | (((t >> 54) + 512) << 52))?;
     let off = (s >> ((t >> 59) + 20)) << 1;
-    put_hard(off);
-    put_hard(std::num::wrapping_sub_u64(0, off));
-    put((s >> 35) + 0x3fef_ffff_f000_0000);
+    put_hard(stdout, off)?;
+    put_hard(stdout, std::num::wrapping_sub_u64(0, off))?;
+    put(stdout, (s >> 35) + 0x3fef_ffff_f000_0000)
 }
 
-fn close(count: u64) {
+fn close(stdout: Stdout, count: u64) -> io::Result<()> {
     let mut s = 0xd1b5_4a32_d192_ed03;
     let mut t = 0x9e37_79b9_7f4a_7c15;
     for n in 0..count {
         s = next(s);
         t = next(t);
-        put_close(s, t);
+        put_close(stdout, s, t)?;
     }
+    Ok(())
 }
 
-fn put_all(count: u64) {
-    put_about(0);
-    put_about(0x8000_0000_0000_0000);
-    put(0xfff0_0000_0000_0000);
-    powers();
-    subnormals();
-    drawn(count);
-    put_about(0x3fef_ffff_f800_0000);
-    put_about(0x3ff0_0000_0800_0000);
-    close(count);
+fn put_all(stdout: Stdout, count: u64) -> io::Result<()> {
+    put_about(stdout, 0)?;
+    put_about(stdout, 0x8000_0000_0000_0000)?;
+    put(stdout, 0xfff0_0000_0000_0000)?;
+    powers(stdout)?;
+    subnormals(stdout)?;
+    drawn(stdout, count)?;
+    put_about(stdout, 0x3fef_ffff_f800_0000)?;
+    put_about(stdout, 0x3ff0_0000_0800_0000)?;
+    close(stdout, count)
 }
 
 // More than any count that is taken.
@@ -152,20 +160,19 @@ fn number(text: &[u8]) -> u64 {
 }
 
 // How many times to draw.
-fn read() -> u64 {
-    let mut text = io::buffer();
-    let n = io::read_full(STDIN_FILENO, &mut text);
-    if n == 0 { 1000 } else { number(&text[..n]) }
+fn read(alloc: Global, stdin: Stdin) -> io::Result<u64> {
+    let mut text = Vec::new(alloc);
+    let n = stdin.take(4096).read_to_end(&mut text)?;
+    if n == 0 { Ok(1000) } else { Ok(number(&text)) }
 }
 
-fn main() {
-    let count = read();
+fn main(rt: HostRuntime) -> io::Result<()> {
+    let count = read(rt.alloc(), rt.stdin())?;
     if count < OTHER {
-        put_all(count);
+        put_all(rt.stdout(), count)
     } else {
-        io::write_all(
-            STDERR_FILENO,
+        rt.stderr().write_all(
             b"roots: the standard input is not a whole number below 1,000,000,000\n",
-        );
+        )
     }
 }

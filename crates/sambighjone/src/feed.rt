@@ -19,13 +19,7 @@ pub fn sambighjone_feed_gyr(image: &mut [f64], x: f64, y: f64, z: f64) -> u32
 }
 
 // One gyroscope sample, with the time since the one before.
-pub fn sambighjone_feed_gyr_with_ts(
-    image: &mut [f64],
-    x: f64,
-    y: f64,
-    z: f64,
-    ts: f64,
-) -> u32
+pub fn sambighjone_feed_gyr_with_ts(image: &mut [f64], x: f64, y: f64, z: f64, ts: f64) -> u32
     ensures { told result image.new ≡ fed (λ f. update_gyr_with_ts binary64 f (vector x y z) ts) image.old }
 {
     let f = image::unpack::unpack(image);

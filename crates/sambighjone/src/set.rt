@@ -66,11 +66,7 @@ pub fn sambighjone_set_mag_dist_rejection_enabled(image: &mut [f64], on: u32) ->
 }
 
 // The deviations from which a sample is not quiet: in °/s and in m/s².
-pub fn sambighjone_set_rest_detection_thresholds(
-    image: &mut [f64],
-    th_gyr: f64,
-    th_acc: f64,
-) -> u32
+pub fn sambighjone_set_rest_detection_thresholds(image: &mut [f64], th_gyr: f64, th_acc: f64) -> u32
     ensures { told result image.new ≡ fed (λ f. set_rest_detection_thresholds binary64 f th_gyr th_acc) image.old }
 {
     let f = image::unpack::unpack(image);

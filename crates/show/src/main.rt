@@ -2,6 +2,7 @@
 // straight up and heading where the first axis points, both in degrees. A line that is no call is
 // told on the error stream, and ends the run.
 #![tactic(auto)]
+
 mod complaint;
 mod input;
 mod output;
@@ -10,18 +11,20 @@ use crate::complaint::complain;
 use crate::input::{is_left, next};
 use crate::output::{say_call, say_filter, say_head, say_nothing, say_one, say_three, say_value};
 use script::{Call, Reader, Request, Samples};
+use std::io;
+use std::io::{Stderr, Stdin, Stdout};
 use vqf::VQF;
 
-fn called(f: VQF, call: Call) -> VQF {
+fn called(stdout: Stdout, f: VQF, call: Call) -> io::Result<VQF> {
     let u = script::called(f, call);
     let answer = u.answer;
-    say_one(answer);
+    say_one(stdout, answer)?;
     let next = u.filter;
-    say_filter(next);
-    next
+    say_filter(stdout, next)?;
+    Ok(next)
 }
 
-fn updated(f: VQF, s: Samples) -> VQF {
+fn updated(stdout: Stdout, f: VQF, s: Samples) -> io::Result<VQF> {
     let gyr = s.gyr;
     let acc = s.acc;
     let mag = s.mag;
@@ -29,46 +32,53 @@ fn updated(f: VQF, s: Samples) -> VQF {
     let gyr_answer = u.gyr;
     let acc_answer = u.acc;
     let mag_answer = u.mag;
-    say_three(gyr_answer, acc_answer, mag_answer);
+    say_three(stdout, gyr_answer, acc_answer, mag_answer)?;
     let next = u.filter;
-    say_filter(next);
-    next
+    say_filter(stdout, next)?;
+    Ok(next)
 }
 
-fn unchanged(f: VQF) -> VQF {
-    say_nothing();
-    say_filter(f);
-    f
+fn unchanged(stdout: Stdout, f: VQF) -> io::Result<VQF> {
+    say_nothing(stdout)?;
+    say_filter(stdout, f)?;
+    Ok(f)
 }
 
 // Writes the row of a line, and hands back the next filter.
-fn answered(f: VQF, request: Request, name: u64, number: u64) -> VQF {
+fn answered(
+    stdout: Stdout,
+    stderr: Stderr,
+    f: VQF,
+    request: Request,
+    name: u64,
+    number: u64,
+) -> io::Result<VQF> {
     match request {
-        Request::Nothing => f,
+        Request::Nothing => Ok(f),
         Request::Bad(fault) => {
-            complain(b"show", number, fault);
-            f
+            complain(stderr, b"show", number, fault)?;
+            Ok(f)
         }
         Request::Value(x) => {
-            say_call(number, name);
-            say_value(x);
-            f
+            say_call(stdout, number, name)?;
+            say_value(stdout, x)?;
+            Ok(f)
         }
         Request::State => {
-            say_call(number, name);
-            unchanged(f)
+            say_call(stdout, number, name)?;
+            unchanged(stdout, f)
         }
         Request::Get => {
-            say_call(number, name);
-            unchanged(f)
+            say_call(stdout, number, name)?;
+            unchanged(stdout, f)
         }
         Request::Update(samples) => {
-            say_call(number, name);
-            updated(f, samples)
+            say_call(stdout, number, name)?;
+            updated(stdout, f, samples)
         }
         Request::Call(call) => {
-            say_call(number, name);
-            called(f, call)
+            say_call(stdout, number, name)?;
+            called(stdout, f, call)
         }
     }
 }
@@ -90,32 +100,33 @@ fn after(number: u64) -> u64 {
 
 // A proved loop has to end, and nothing says that the input does: no run has as many bytes as a
 // number can count.
-fn play(buf: &mut [u8; 65536]) {
+fn play(stdin: Stdin, stdout: Stdout, stderr: Stderr, buf: &mut [u8; 65536]) -> io::Result<()> {
     let mut at = 0usize;
     let mut end = 0usize;
     let mut number = 1u64;
     let mut filter = VQF::fresh();
     let mut reader = Reader::START;
     for turn in 0..u64::MAX {
-        let more = is_left(buf, &mut at, &mut end);
+        let more = is_left(stdin, buf, &mut at, &mut end)?;
         reader = reader.with(next(buf, &mut at, end));
         if reader.is_ended {
             let line = reader.line;
             let request = line.request();
-            filter = answered(filter, request, line.name, number);
+            filter = answered(stdout, stderr, filter, request, line.name, number)?;
             if is_bad(request) {
-                return;
+                return Ok(());
             }
             number = after(number);
             reader = Reader::START;
         }
         if !more {
-            return;
+            return Ok(());
         }
     }
+    Ok(())
 }
 
-fn main() {
-    say_head();
-    play(&mut io::large_buffer());
+fn main(rt: HostRuntime) -> io::Result<()> {
+    say_head(rt.stdout())?;
+    play(rt.stdin(), rt.stdout(), rt.stderr(), &mut [0; 65536])
 }

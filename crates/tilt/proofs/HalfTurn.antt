@@ -6,7 +6,7 @@ use Rattle.floats.specs.Decimals.{decimal, millionth}
 use Rattle.floats.specs.Order.{nought, le_tr, lt→le, lt→nle, nlt→le, le→number, Within}
 use Rattle.floats.specs.Quotients.{positive_up}
 use Rattle.floats.specs.Tests.{is_true, is_false}
-use Rattle.floats.specs.Intervals.{Known, none, known, Expr, var, lit, add·, sub·, mul·, div', bound, inside, bounded}
+use Rattle.floats.specs.Intervals.{Known, none, known, Expr, var, lit, add', sub', mul', div', bound, inside, bounded}
 use Rattle.numbers.specs.Root.{root}
 use Rattle.numbers.proofs.RootOrder.{root_grows, root_up_to}
 use Rattle.algebra.specs.Quaternions.{quaternion, norm, normalize, rotate}
@@ -35,22 +35,22 @@ module _ (w : Format) where
 
   -- what `rotate` makes of `flip`: 1, -1 and four zeros
   abbrev same : Expr
-  same = sub· (sub· 𝟏 (mul· (mul· 𝟐 𝟎) 𝟎)) (mul· (mul· 𝟐 𝟎) 𝟎)
+  same = sub' (sub' 𝟏 (mul' (mul' 𝟐 𝟎) 𝟎)) (mul' (mul' 𝟐 𝟎) 𝟎)
 
   abbrev turned : Expr
-  turned = sub· (sub· 𝟏 (mul· (mul· 𝟐 𝟏) 𝟏)) (mul· (mul· 𝟐 𝟎) 𝟎)
+  turned = sub' (sub' 𝟏 (mul' (mul' 𝟐 𝟏) 𝟏)) (mul' (mul' 𝟐 𝟎) 𝟎)
 
   abbrev first : Expr
-  first = add· (add· (mul· same (var 0)) (mul· (mul· 𝟐 (var 1)) (sub· (mul· 𝟎 𝟏) (mul· 𝟎 𝟎)))) (mul· (mul· 𝟐 (var 2)) (add· (mul· 𝟎 𝟎) (mul· 𝟎 𝟏)))
+  first = add' (add' (mul' same (var 0)) (mul' (mul' 𝟐 (var 1)) (sub' (mul' 𝟎 𝟏) (mul' 𝟎 𝟎)))) (mul' (mul' 𝟐 (var 2)) (add' (mul' 𝟎 𝟎) (mul' 𝟎 𝟏)))
 
   abbrev second : Expr
-  second = add· (add· (mul· (mul· 𝟐 (var 0)) (add· (mul· 𝟎 𝟎) (mul· 𝟎 𝟏))) (mul· (var 1) turned)) (mul· (mul· 𝟐 (var 2)) (sub· (mul· 𝟎 𝟎) (mul· 𝟏 𝟎)))
+  second = add' (add' (mul' (mul' 𝟐 (var 0)) (add' (mul' 𝟎 𝟎) (mul' 𝟎 𝟏))) (mul' (var 1) turned)) (mul' (mul' 𝟐 (var 2)) (sub' (mul' 𝟎 𝟎) (mul' 𝟏 𝟎)))
 
   abbrev third : Expr
-  third = add· (add· (mul· (mul· 𝟐 (var 0)) (sub· (mul· 𝟎 𝟏) (mul· 𝟎 𝟎))) (mul· (mul· 𝟐 (var 1)) (add· (mul· 𝟎 𝟏) (mul· 𝟎 𝟎)))) (mul· (var 2) turned)
+  third = add' (add' (mul' (mul' 𝟐 (var 0)) (sub' (mul' 𝟎 𝟏) (mul' 𝟎 𝟎))) (mul' (mul' 𝟐 (var 1)) (add' (mul' 𝟎 𝟏) (mul' 𝟎 𝟎)))) (mul' (var 2) turned)
 
   abbrev radicand' : Expr
-  radicand' = div' (add· (var 0) 𝟏) 𝟐
+  radicand' = div' (add' (var 0) 𝟏) 𝟐
 
   abbrev radicand : Float → Float
   radicand z = div w (add w z (one w)) (two w)

@@ -4,7 +4,7 @@ use Rattle.floats.specs.Prelude.{T, Float, Format, binary32, binary64, of_bits, 
 use Rattle.floats.specs.Notation.{zero, one}
 use Rattle.floats.specs.Tests.{both, keeps}
 use Rattle.floats.specs.Order.{Within, widen, lt→le}
-use Rattle.floats.specs.Intervals.{Known, none, known, var, mul·, div', bound, inside, bounded}
+use Rattle.floats.specs.Intervals.{Known, none, known, var, mul', div', bound, inside, bounded}
 use Rattle.numbers.specs.Constants.{ANGLE_LIMIT}
 use Rattle.numbers.specs.Root.{root}
 use Rattle.numbers.specs.Sines.{sin}
@@ -38,7 +38,7 @@ module _ (w : Format) where
     second : T (le (zero w) (shortest_interval w)) × T (le (longest_interval w) (one w))
     from : T (le (neg ANGLE_LIMIT) (zero w))
     unit : T (le (neg (small w)) (neg (one w))) × T (le (one w) (small w))
-    part_small : (s n g : Float) (p : Unit w s) (q : Within n (vectors.epsilon w) (norm_most w)) (r : Rate w g) → T (inside (bound w (part s n g p q r) (mul· (div' (var 0) (var 1)) (var 2))) (neg (small w)) (small w))
+    part_small : (s n g : Float) (p : Unit w s) (q : Within n (vectors.epsilon w) (norm_most w)) (r : Rate w g) → T (inside (bound w (part s n g p q r) (mul' (div' (var 0) (var 1)) (var 2))) (neg (small w)) (small w))
 
 computed : (w : Format) → Computed w
 unfolding bound inside root add mul div neg le of_bits
@@ -65,7 +65,7 @@ module _ (w : Format) where
       let s = (ranges w).sin.within h k in
       let m : Within n (vectors.epsilon w) (norm_most w) = (lt→le (vectors.epsilon w) n above, (norm_within w v.0 v.1 v.2 r.0 r.1 r.2).1) in
       let of : (g : Float) → Rate w g → Small w (mul w (div w (sin w h) n) g)
-      = λ g u. bounded w (part w (sin w h) n g s m u) (mul· (div' (var 0) (var 1)) (var 2)) _ _ (c.part_small (sin w h) n g s m u) in
+      = λ g u. bounded w (part w (sin w h) n g s m u) (mul' (div' (var 0) (var 1)) (var 2)) _ _ (c.part_small (sin w h) n g s m u) in
       let unit = widen _ (neg (one w)) (one w) (neg (small w)) (small w) c.unit.0 c.unit.1 ((ranges w).cos.within h k) in
       small_finite w _ (normalize_small w _ (times_finite w q _ low (unit, of _ r.0, of _ r.1, of _ r.2)))
 

@@ -2,6 +2,8 @@
 ghost use Rattle.std.specs.Prelude.{◌<◌};
 
 use crate::play::{play_acc, play_gyr, play_mag};
+use std::io;
+use std::io::Stdout;
 
 // A name is its bytes, packed.
 const GYR: u64 = 0x67_7972;
@@ -49,31 +51,32 @@ fn counted(line: Line, digit: u64) -> Line
 }
 
 // Plays a line that is whole; the next starts with nothing read.
-fn played(line: Line) -> Line {
+fn played(stdout: Stdout, line: Line) -> io::Result<Line> {
     let name = line.name;
     match name {
-        GYR => play_gyr(line.count),
-        ACC => play_acc(line.count),
-        MAG => play_mag(line.count),
+        GYR => play_gyr(stdout, line.count)?,
+        ACC => play_acc(stdout, line.count)?,
+        MAG => play_mag(stdout, line.count)?,
         _ => {}
     }
-    Line { name: 0, count: 0 }
+    Ok(Line { name: 0, count: 0 })
 }
 
-fn taken(line: Line, byte: u64) -> Line {
+fn taken(stdout: Stdout, line: Line, byte: u64) -> io::Result<Line> {
     match byte {
-        NEWLINE => played(line),
-        SPACE => line,
-        48..=57 => counted(line, byte - 48),
-        _ => named(line, byte),
+        NEWLINE => played(stdout, line),
+        SPACE => Ok(line),
+        48..=57 => Ok(counted(line, byte - 48)),
+        _ => Ok(named(line, byte)),
     }
 }
 
 // The last line need not end in a newline.
-pub fn play_lines(text: &[u8]) {
+pub fn play_lines(stdout: Stdout, text: &[u8]) -> io::Result<()> {
     let mut line = Line { name: 0, count: 0 };
     for i in 0..text.len() {
-        line = taken(line, wide(text[i]));
+        line = taken(stdout, line, wide(text[i]))?;
     }
-    played(line);
+    played(stdout, line)?;
+    Ok(())
 }

@@ -3,14 +3,16 @@
 // and some numbers that the last one left. The file stdout was written by oracle/times.rs:
 //   target/oracle/times_port < crates/times/stdin > crates/times/stdout
 #![tactic(auto)]
+
 mod input;
 mod output;
 mod play;
 
-use libc::STDIN_FILENO;
+use std::io;
+use std::io::Read;
 
-fn main() {
-    let mut text = io::buffer();
-    let n = io::read_full(STDIN_FILENO, &mut text);
-    input::play_lines(&text[..n]);
+fn main(rt: HostRuntime) -> io::Result<()> {
+    let mut text = Vec::new(rt.alloc());
+    rt.stdin().take(4096).read_to_end(&mut text)?;
+    input::play_lines(rt.stdout(), &text)
 }

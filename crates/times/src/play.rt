@@ -2,6 +2,8 @@
 use crate::output::{put_count, put_number, put_quaternion, put_vector};
 use algebra::Vector;
 use limits::Answer;
+use std::io;
+use std::io::Stdout;
 use vqf::VQF;
 
 // The first component of the next sample: up in small steps from -1 to 1, and again.
@@ -18,7 +20,7 @@ fn counted(count: u64, answer: Answer) -> u64 {
     }
 }
 
-pub fn play_gyr(count: u64) {
+pub fn play_gyr(stdout: Stdout, count: u64) -> io::Result<()> {
     let mut f = VQF::fresh();
     let mut x = 0.0;
     let mut done = 0u64;
@@ -29,12 +31,12 @@ pub fn play_gyr(count: u64) {
         f = u.filter;
         x = next(x);
     }
-    put_count(done);
+    put_count(stdout, done)?;
     let gyr_quat = f.inertial.state.inclination.gyr_quat;
-    put_quaternion(gyr_quat);
+    put_quaternion(stdout, gyr_quat)
 }
 
-pub fn play_acc(count: u64) {
+pub fn play_acc(stdout: Stdout, count: u64) -> io::Result<()> {
     let mut f = VQF::fresh();
     let mut x = 0.0;
     let mut done = 0u64;
@@ -45,14 +47,14 @@ pub fn play_acc(count: u64) {
         f = u.filter;
         x = next(x);
     }
-    put_count(done);
+    put_count(stdout, done)?;
     let acc_quat = f.inertial.state.inclination.acc_quat;
-    put_quaternion(acc_quat);
+    put_quaternion(stdout, acc_quat)?;
     let bias = f.inertial.state.bias.bias;
-    put_vector(bias);
+    put_vector(stdout, bias)
 }
 
-pub fn play_mag(count: u64) {
+pub fn play_mag(stdout: Stdout, count: u64) -> io::Result<()> {
     let mut f = VQF::fresh();
     let mut x = 0.0;
     let mut done = 0u64;
@@ -63,9 +65,9 @@ pub fn play_mag(count: u64) {
         f = u.filter;
         x = next(x);
     }
-    put_count(done);
-    put_number(f.delta());
+    put_count(stdout, done)?;
+    put_number(stdout, f.delta())?;
     let norm_dip = f.magnetic.state.field.mag_norm_dip;
-    put_number(norm_dip.0);
-    put_number(norm_dip.1);
+    put_number(stdout, norm_dip.0)?;
+    put_number(stdout, norm_dip.1)
 }

@@ -7,7 +7,7 @@ use Rattle.floats.specs.Decimals.{half_turn}
 use Rattle.floats.specs.Tests.{both}
 use Rattle.floats.specs.Order.{nought, Within}
 use Rattle.floats.specs.Products.{finite_number}
-use Rattle.floats.specs.Intervals.{Known, none, known, Expr, var, lit, mul·, div', bound, good, is_finite}
+use Rattle.floats.specs.Intervals.{Known, none, known, Expr, var, lit, mul', div', bound, good, is_finite}
 use Rattle.numbers.specs.Root.{root}
 use Rattle.numbers.proofs.RootOrder.{root_limit, root_within}
 use Rattle.algebra.proofs.Normalized.{times_within, times_finite, apply_delta_finite}
@@ -38,7 +38,7 @@ abbrev rooted : (w : Format) (r th : Float) → Within r nought (root_limit w) �
 rooted w r th v t = known r nought (root_limit w) v (known th (least_threshold w) (threshold_limit w) t none)
 
 abbrev radians' : Format → Expr
-radians' w = mul· (var 1) (div' (lit (pi w)) (lit (half_turn w)))
+radians' w = mul' (var 1) (div' (lit (pi w)) (lit (half_turn w)))
 
 record Computed (w : Format) : Type 0 where
   in_radians : (r th : Float) (v : Within r nought (root_limit w)) (t : Threshold w th) → T (good (bound w (rooted w r th v t) (div' (var 0) (radians' w))))

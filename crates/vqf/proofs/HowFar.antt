@@ -4,7 +4,8 @@ use Rattle.floats.specs.Tests.{keeps}
 use Rattle.limits.specs.Answers.{Told}
 use Rattle.inertial.specs.declared.types.Inertial.{Inertial}
 use Rattle.inertial.specs.Setup as inertial
-use Rattle.inertial.proofs.BiasHeld.{Held, bias_within, reached_held}
+use Rattle.inertial.proofs.BiasHeld.{Held, bias_within}
+use Rattle.inertial.proofs.BiasReached.{reached_held}
 use Rattle.inertial.proofs.BiasLimit.{bias_limit}
 use Rattle.inertial.proofs.CountsHeld.{CountsHeld, reached_counts}
 use Rattle.inertial.proofs.Sound.{Sound, reached_sound}

@@ -7,7 +7,7 @@ use Rattle.limits.specs.Answers.{Told, told}
 use Rattle.inertial.specs.AllFinite as inertial
 use Rattle.inertial.specs.Calls.{update_gyr, update_acc, update_gyr_with_ts, set_tau_acc, set_motion_bias_est_enabled, set_rest_bias_est_enabled, set_rest_detection_thresholds, set_bias_estimate}
 use Rattle.inertial.proofs.BiasLimit.{ClipTaken}
-use Rattle.inertial.proofs.BiasHeld.{reached_held}
+use Rattle.inertial.proofs.BiasReached.{reached_held}
 use Rattle.inertial.proofs.FiniteCalls as of_inertial
 use Rattle.magnetic.specs.AllFinite as magnetic
 use Rattle.magnetic.specs.Fields.{finite_field}

@@ -1,5 +1,4 @@
 -- By the branch taken.
-use borrow.Author.Rules.{rules}
 use Rattle.sambighjone.specs.Calls.{constructed}
 use Rattle.sambighjone.proofs.build.constructed.Goals as goal
 

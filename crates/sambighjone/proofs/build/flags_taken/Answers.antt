@@ -1,5 +1,4 @@
 -- Each flag by its place.
-use borrow.Author.Rules.{rules}
 use Rattle.sambighjone.specs.Calls.{flags_taken}
 use Rattle.sambighjone.proofs.build.flags_taken.Goals as goal
 

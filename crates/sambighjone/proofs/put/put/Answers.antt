@@ -1,7 +1,7 @@
 -- After i turns the first i numbers are written.
 use Rattle.std.proofs.Common.{rules}
-use Rattle.floats.specs.Prelude.{eq-eqb, ne_eqb, ◌≡◌, ap, ◌∙◌, List, ◌≤◌, ◌-◌, length, set, get_or, length-set, Float, nan}
-use lib.Seq.{paste, paste-zero}
+use Rattle.floats.specs.Prelude.{eq-eqb, ne_eqb, ap, ◌∙◌, List, set, get_or, length-set, Float, nan}
+use lib.Seq.{paste-zero}
 use Rattle.limits.specs.Answers.{told}
 use Rattle.sambighjone.proofs.Laws.{pasted_more, pasted_done, given_refused}
 use Rattle.sambighjone.proofs.put.put.Goals as goal

@@ -1,5 +1,4 @@
 -- The settings, as a list of numbers.
-use borrow.Author.Rules.{rules}
 use Rattle.sambighjone.proofs.put.put_settings.Goals as goal
 
 pub returns : goal.returns

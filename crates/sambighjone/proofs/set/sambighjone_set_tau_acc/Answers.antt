@@ -1,5 +1,4 @@
 -- The call by value, on what is read of the image.
-use borrow.Author.Rules.{rules}
 use Rattle.sambighjone.proofs.Laws.{fed_done}
 use Rattle.sambighjone.proofs.set.sambighjone_set_tau_acc.Goals as goal
 

@@ -1,5 +1,4 @@
 -- Each answer by its number.
-use borrow.Author.Rules.{rules}
 use Rattle.sambighjone.proofs.update.put_answers.Goals as goal
 
 pub returns : goal.returns

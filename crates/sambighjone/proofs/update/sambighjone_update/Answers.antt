@@ -1,5 +1,5 @@
 -- The call by value, on what is read of the image and of the samples.
-use Rattle.floats.specs.Prelude.{sym, ◌∙◌, eq-eqb, ne_eqb, not-true, not-false}
+use Rattle.floats.specs.Prelude.{sym, ◌∙◌, eq-eqb, ne_eqb}
 use Rattle.sambighjone.proofs.Laws.{two_sampled, updated_done, updated_refused}
 use Rattle.sambighjone.proofs.update.sambighjone_update.Goals as goal
 

@@ -1,5 +1,4 @@
 -- The call by value, on what is read of the image and of the samples.
-use borrow.Author.Rules.{rules}
 use Rattle.sambighjone.proofs.update.stepped.Goals as goal
 
 pub returns : goal.returns

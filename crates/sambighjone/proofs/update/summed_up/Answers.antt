@@ -1,5 +1,4 @@
 -- The first refusal, beside the filter as it is.
-use borrow.Author.Rules.{rules}
 use Rattle.limits.specs.Answers.{told}
 use Rattle.sambighjone.proofs.update.summed_up.Goals as goal
 
