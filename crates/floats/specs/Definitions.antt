@@ -1,4 +1,4 @@
--- What the functions of this crate give, for any float. `finite` is `lib.Ieee.Scale`'s: true for what is neither a NaN nor an infinity.
+-- What the functions of this crate give, for any float. `finite` is `Rattle.std.specs.Float.Ieee.Scale`'s: true for what is neither a NaN nor an infinity.
 use Rattle.std.specs.Prelude.{false, cond}
 use lib.Ieee.{Float, nan, inf, fin, lt, eq, le}
 

@@ -18,7 +18,7 @@ HALF = half binary64
 abbrev pub between : Float → Float → Float → Bool
 between x lo hi = le lo x && le x hi
 
--- ---- the domains: sine and cosine from -ANGLE-LIMIT to ANGLE_LIMIT, 256; the tangent from 0 to TAN_LIMIT, 0.75; the exponential from -EXP-LIMIT, 10000, to 0
+-- ---- the domains: sine and cosine from -ANGLE_LIMIT to ANGLE_LIMIT, 256; the tangent from 0 to TAN_LIMIT, 0.75; the exponential from -EXP_LIMIT, 10000, to 0
 abbrev pub ANGLE_LIMIT : Float
 ANGLE_LIMIT = from_bits binary64 0x4070_0000_0000_0000
 
