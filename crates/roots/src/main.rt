@@ -3,7 +3,8 @@
 // The file stdout was written by oracle/roots.rs, which takes the same floats to another root.
 #![tactic(auto)]
 
-use std::alloc::Global;
+ghost use Rattle.std.specs.Prelude.{◌≤◌, IfOk};
+
 use std::io;
 use std::io::{Read, Stdin, Stdout};
 
@@ -159,15 +160,34 @@ fn number(text: &[u8]) -> u64 {
     count
 }
 
+// Fills the buffer as far as the standard input goes, and tells how far.
+fn read_full(mut stdin: Stdin, text: &mut [u8; 4096]) -> io::Result<usize>
+    ensures { IfOk result (λ n. n ≤ 4096) }
+{
+    let mut at = 0usize;
+    for turn in 0..4096u32 {
+        let count = stdin.read(&mut text[at..])?;
+        if count == 0 {
+            return Ok(at);
+        }
+        at += count;
+    }
+    Ok(at)
+}
+
 // How many times to draw.
-fn read(alloc: Global, stdin: Stdin) -> io::Result<u64> {
-    let mut text = Vec::new(alloc);
-    let n = stdin.take(4096).read_to_end(&mut text)?;
-    if n == 0 { Ok(1000) } else { Ok(number(&text)) }
+fn read(stdin: Stdin) -> io::Result<u64> {
+    let mut text = [0u8; 4096];
+    let n = read_full(stdin, &mut text)?;
+    if n == 0 {
+        Ok(1000)
+    } else {
+        Ok(number(&text[..n]))
+    }
 }
 
 fn main(rt: HostRuntime) -> io::Result<()> {
-    let count = read(rt.alloc(), rt.stdin())?;
+    let count = read(rt.stdin())?;
     if count < OTHER {
         put_all(rt.stdout(), count)
     } else {

@@ -1,9 +1,9 @@
 // The lines of the standard input.
-ghost use Rattle.std.specs.Prelude.{◌<◌};
+ghost use Rattle.std.specs.Prelude.{◌<◌, ◌≤◌, IfOk};
 
 use crate::play::{play_acc, play_gyr, play_mag};
 use std::io;
-use std::io::Stdout;
+use std::io::{Read, Stdin, Stdout};
 
 // A name is its bytes, packed.
 const GYR: u64 = 0x67_7972;
@@ -17,6 +17,21 @@ const SPACE: u64 = 32;
 const NEWLINE: u64 = 10;
 
 const COUNT_LIMIT: u64 = 1_000_000_000_000;
+
+// Fills the buffer as far as the standard input goes, and tells how far.
+pub fn read_full(mut stdin: Stdin, text: &mut [u8; 4096]) -> io::Result<usize>
+    ensures { IfOk result (λ n. n ≤ 4096) }
+{
+    let mut at = 0usize;
+    for turn in 0..4096u32 {
+        let count = stdin.read(&mut text[at..])?;
+        if count == 0 {
+            return Ok(at);
+        }
+        at += count;
+    }
+    Ok(at)
+}
 
 // What was read of a line.
 #[derive(Clone, Copy)]

@@ -9,10 +9,9 @@ mod output;
 mod play;
 
 use std::io;
-use std::io::Read;
 
 fn main(rt: HostRuntime) -> io::Result<()> {
-    let mut text = Vec::new(rt.alloc());
-    rt.stdin().take(4096).read_to_end(&mut text)?;
-    input::play_lines(rt.stdout(), &text)
+    let mut text = [0u8; 4096];
+    let n = input::read_full(rt.stdin(), &mut text)?;
+    input::play_lines(rt.stdout(), &text[..n])
 }
