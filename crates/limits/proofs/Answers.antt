@@ -1,5 +1,5 @@
--- The answer is read back from its number, which has one digit. What is told is done or refused.
-use Rattle.floats.specs.Prelude.{◌≡◌, refl, sym, ap, ◌∙◌, Bool, true, false, not, cond, ℕ, zero, suc, ◌<◌, arith, T}
+-- The answer is read back from its number. What is told is done or refused.
+use Rattle.floats.specs.Prelude.{◌≡◌, refl, sym, ap, ◌∙◌, Bool, true, false, not, cond, ℕ, zero, suc, arith, T}
 use Rattle.limits.specs.Answers.{number, Told, told, Kept, NumberTells}
 use Rattle.limits.specs.declared.answer.Answer.{Answer}
 use Rattle.limits.specs.declared.answer.Answer.TheVariants.{Done, ZeroSample, BadSample, BadInterval, BadSetting, Singular, NotFinite}
@@ -25,16 +25,6 @@ number_tells a b h = sym (same a) ∙ ap answer h ∙ same b
     same BadSetting = refl
     same Singular = refl
     same NotFinite = refl
-
--- the numbers have one digit
-pub number_small : (a : Answer) → number a < 10
-number_small Done = omega arith
-number_small ZeroSample = omega arith
-number_small BadSample = omega arith
-number_small BadInterval = omega arith
-number_small BadSetting = omega arith
-number_small Singular = omega arith
-number_small NotFinite = omega arith
 
 -- ---- a call is a choice between `told 0 next` and `told n f`, where f is what it was given; its tests tell the number
 pub record Says {A : Type 0} (n : ℕ) (next f : A) (t : Told A) : Type 0 where

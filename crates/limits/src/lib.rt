@@ -4,5 +4,7 @@
 pub mod answer;
 pub mod sample;
 pub mod setting;
+pub mod updated;
 
 pub use crate::answer::Answer;
+pub use crate::updated::{Tried, Updated};

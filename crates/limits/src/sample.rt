@@ -23,6 +23,7 @@ pub fn within(lo: f64, hi: f64, x: f64) -> bool
 }
 
 // Every component within ±limit.
+#[tactic(auto, unfolding(crate::specs::Limits::all_within))]
 pub fn all_within(limit: f64, v: Vector) -> bool
     ensures { result ≡ all_within limit v }
 {
@@ -58,6 +59,7 @@ pub fn interval_taken(ts: f64) -> bool
 }
 
 // All zero, of either sign.
+#[tactic(auto, unfolding(crate::specs::Limits::zero_sample))]
 pub fn zero_sample(v: Vector) -> bool
     ensures { result ≡ zero_sample binary64 v }
 {

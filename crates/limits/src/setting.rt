@@ -37,6 +37,7 @@ pub fn tau_taken(ts: f64, tau: f64) -> bool
 }
 
 // A time constant, or 0 and below: -10000 to 0, or from least up.
+#[tactic(auto, unfolding(crate::specs::Limits::tau_or_off_taken))]
 pub fn tau_or_off_taken(least: f64, tau: f64) -> bool
     ensures { result ≡ tau_or_off_taken binary64 least tau }
 {
