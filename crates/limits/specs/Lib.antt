@@ -2,3 +2,4 @@ pub mod Answers
 pub mod Table
 pub mod Limits
 pub mod BySize
+pub mod Words

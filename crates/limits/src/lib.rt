@@ -2,6 +2,7 @@
 #![tactic(auto)]
 
 pub mod answer;
+mod printed;
 pub mod sample;
 pub mod setting;
 pub mod updated;
