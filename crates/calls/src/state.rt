@@ -4,7 +4,7 @@ use algebra::{Matrix, Quaternion, Vector};
 use filters::{Channel, Coeffs, Phase};
 use inertial::asked::BiasEstimate;
 use inertial::types::{Bias, BiasCoefficients, BiasParams};
-use magnetic::types::{Field, Heading, Smoothing};
+use magnetic::types::{Field, Heading};
 use magnetic::{MagneticCoefficients, MagneticParams};
 use std::io;
 use std::io::Stdout;
@@ -148,8 +148,8 @@ fn put_smoothing(
 ) -> io::Result<()> {
     let mag_norm_dip_lp = c.mag_norm_dip_lp;
     match mag_norm_dip_lp {
-        Smoothing::Absent => put_text(stdout, out, at, b" -"),
-        Smoothing::Present(lp) => put_coeffs(stdout, out, at, lp),
+        None => put_text(stdout, out, at, b" -"),
+        Some(lp) => put_coeffs(stdout, out, at, lp),
     }
 }
 

@@ -1,11 +1,11 @@
 -- `unpack` undoes `pack`, field by field: a flag, a phase and a bank of channels are read as they were written, and any other number is itself.
+use Rattle.std.specs.Prelude.{Option, None, Some}
 use Rattle.floats.specs.Prelude.{◌≡◌, refl, ap, ◌∙◌, Bool, true, false, List, [], ◌∷◌, ℕ, zero, suc, suc_inj, arith, length, eq, ne, of_bits}
 use Rattle.filters.specs.Banks.{channel}
 use Rattle.filters.specs.declared.channel.Phase.{Phase}
 use Rattle.filters.specs.declared.channel.Phase.TheVariants.{Averaging, Running}
 use Rattle.filters.specs.declared.channel.Channel.{Channel}
-use Rattle.magnetic.specs.declared.types.Smoothing.{Smoothing}
-use Rattle.magnetic.specs.declared.types.Smoothing.TheVariants.{Absent, Present}
+use Rattle.filters.specs.declared.coeffs.Coeffs.{Coeffs}
 use Rattle.vqf.specs.declared.types.VQF.{VQF}
 use Rattle.image.specs.Marks.{flag, on, marked}
 use Rattle.image.specs.Marks as marks
@@ -52,10 +52,10 @@ unfolding to.channels9
 bank9 c h = (λ j. channel_marked (channel c 0) j ∷ channel_marked (channel c 1) j ∷ channel_marked (channel c 2) j ∷ channel_marked (channel c 3) j ∷ channel_marked (channel c 4) j ∷ channel_marked (channel c 5) j ∷ channel_marked (channel c 6) j ∷ channel_marked (channel c 7) j ∷ channel_marked (channel c 8) j ∷ []) ∙ build_all 9 c h
 
 -- ---- the filter of the norm and dip
-smoothed : (s : Smoothing) → of.smoothing (to.smoothing s) 0 ≡ s
+smoothed : (s : Option Coeffs) → of.smoothing (to.smoothing s) 0 ≡ s
 unfolding flag on of_bits eq ne
-smoothed Absent = refl
-smoothed (Present k) = refl
+smoothed None = refl
+smoothed (Some k) = refl
 
 read_pack : (f : VQF) → FullBanks f → of.read (to.pack f) ≡ f
 unfolding to.pack to.all_params to.all_coeffs to.all_inclination to.all_bias to.all_rest to.all_magnetic_state to.inertial_params to.magnetic_params to.inertial_coeffs to.magnetic_coeffs to.inclination to.bias to.rest to.magnetic_state to.channels2 to.channels3 to.channels9 of.inertial_params of.magnetic_params of.inertial_coeffs of.magnetic_coeffs of.inclination of.bias of.rest of.magnetic_state

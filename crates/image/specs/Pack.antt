@@ -1,5 +1,5 @@
 -- A filter as a list of numbers: each stored number as itself, in the order of the fields, each flag and phase as its mark. The settings come first.
-use Rattle.std.specs.Prelude.{Bool, true, false, List, [], ◌∷◌, ◌++◌, ℕ, Float}
+use Rattle.std.specs.Prelude.{Bool, true, false, List, [], ◌∷◌, ◌++◌, ℕ, Option, None, Some, Float}
 use Rattle.std.specs.Float.{binary64}
 use Rattle.floats.specs.Notation.{zero}
 use Rattle.filters.specs.Banks.{channel}
@@ -11,8 +11,6 @@ use Rattle.tilt.specs.declared.types.Inclination.{Inclination}
 use Rattle.inertial.specs.declared.types.Bias.{Bias}
 use Rattle.tilt.specs.declared.types.Rest.{Rest}
 use Rattle.magnetic.specs.declared.types.MagneticParams.{MagneticParams}
-use Rattle.magnetic.specs.declared.types.Smoothing.{Smoothing}
-use Rattle.magnetic.specs.declared.types.Smoothing.TheVariants.{Absent, Present}
 use Rattle.magnetic.specs.declared.types.MagneticCoefficients.{MagneticCoefficients}
 use Rattle.magnetic.specs.declared.types.MagneticState.{MagneticState}
 use Rattle.vqf.specs.declared.types.VQF.{VQF}
@@ -58,15 +56,15 @@ inertial_coeffs k =
     k.bias.bias_p0 ∷ k.bias.bias_v ∷ k.bias.bias_motion_w ∷ k.bias.bias_vertical_w ∷ k.bias.bias_rest_w ∷ []
 
 -- five zeros where the filter is absent
-abbrev present : Smoothing → Bool
-present Absent = false
-present (Present k) = true
+abbrev present : Option Coeffs → Bool
+present None = false
+present (Some k) = true
 
-abbrev coeffs_of : Smoothing → Coeffs
-coeffs_of Absent = record { b0 = zero binary64; b1 = zero binary64; b2 = zero binary64; a1 = zero binary64; a2 = zero binary64 }
-coeffs_of (Present k) = k
+abbrev coeffs_of : Option Coeffs → Coeffs
+coeffs_of None = record { b0 = zero binary64; b1 = zero binary64; b2 = zero binary64; a1 = zero binary64; a2 = zero binary64 }
+coeffs_of (Some k) = k
 
-abbrev pub smoothing : Smoothing → List Float
+abbrev pub smoothing : Option Coeffs → List Float
 smoothing s =
     let k = coeffs_of s in
     flag (present s) ∷ k.b0 ∷ k.b1 ∷ k.b2 ∷ k.a1 ∷ k.a2 ∷ []

@@ -1,5 +1,5 @@
 -- A list of numbers as a filter. Any list is read: past its end is a NaN, and a mark is read as `Marks` says.
-use Rattle.std.specs.Prelude.{cond, List, [], ◌∷◌, ℕ, ◌+◌, get_or, Float}
+use Rattle.std.specs.Prelude.{cond, List, [], ◌∷◌, ℕ, ◌+◌, get_or, Option, None, Some, Float}
 use Rattle.std.specs.Float.{nan}
 use Rattle.algebra.specs.declared.matrix.Matrix.{Matrix}
 use Rattle.algebra.specs.declared.quaternion.Quaternion.{Quaternion}
@@ -13,8 +13,6 @@ use Rattle.inertial.specs.declared.types.Bias.{Bias}
 use Rattle.tilt.specs.declared.types.Rest.{Rest}
 use Rattle.inertial.specs.declared.types.Inertial.{Inertial}
 use Rattle.magnetic.specs.declared.types.MagneticParams.{MagneticParams}
-use Rattle.magnetic.specs.declared.types.Smoothing.{Smoothing}
-use Rattle.magnetic.specs.declared.types.Smoothing.TheVariants.{Absent, Present}
 use Rattle.magnetic.specs.declared.types.MagneticCoefficients.{MagneticCoefficients}
 use Rattle.magnetic.specs.declared.types.MagneticState.{MagneticState}
 use Rattle.magnetic.specs.declared.types.Magnetic.{Magnetic}
@@ -39,8 +37,8 @@ matrix s i =
 abbrev pub coeffs : List Float → ℕ → Coeffs
 coeffs s i = record { b0 = number s i; b1 = number s (i + 1); b2 = number s (i + 2); a1 = number s (i + 3); a2 = number s (i + 4) }
 
-abbrev pub smoothing : List Float → ℕ → Smoothing
-smoothing s i = cond (on (number s i)) (Present (coeffs s (i + 1))) Absent
+abbrev pub smoothing : List Float → ℕ → Option Coeffs
+smoothing s i = cond (on (number s i)) (Some (coeffs s (i + 1))) None
 
 abbrev pub channel_at : List Float → ℕ → Channel
 channel_at s i = channel (number s i) (number s (i + 1)) (number s (i + 2))

@@ -9,7 +9,6 @@ use crate::marks::{flag, marked};
 use filters::Channel;
 use inertial::types::Bias;
 use inertial::{InertialCoefficients, InertialParams};
-use magnetic::types::Smoothing;
 use magnetic::{MagneticCoefficients, MagneticParams, MagneticState};
 use tilt::{Inclination, Rest};
 use vqf::VQF;
@@ -122,8 +121,8 @@ fn magnetic_coeffs(k: MagneticCoefficients) -> [f64; 9]
 {
     let lp = k.mag_norm_dip_lp;
     match lp {
-        Smoothing::Absent => [k.mag_ts, k.k_mag, k.k_mag_ref, 0.0, 0.0, 0.0, 0.0, 0.0, 0.0],
-        Smoothing::Present(c) => {
+        None => [k.mag_ts, k.k_mag, k.k_mag_ref, 0.0, 0.0, 0.0, 0.0, 0.0, 0.0],
+        Some(c) => {
             [
                 k.mag_ts,
                 k.k_mag,

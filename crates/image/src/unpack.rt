@@ -9,7 +9,7 @@ use algebra::{Matrix, Quaternion, Vector};
 use filters::{Channel, Coeffs};
 use inertial::types::{Bias, BiasCoefficients, BiasParams};
 use inertial::{Inertial, InertialCoefficients, InertialParams, InertialState};
-use magnetic::types::{Field, Heading, NormDip, Smoothing};
+use magnetic::types::{Field, Heading, NormDip};
 use magnetic::{Magnetic, MagneticCoefficients, MagneticParams, MagneticState};
 use tilt::{Deviations, Inclination, Rest, RestParams};
 use vqf::{Params, VQF};
@@ -58,14 +58,14 @@ fn coeffs(s: &[f64], at: usize) -> Coeffs
     }
 }
 
-fn smoothing(s: &[f64], at: usize) -> Smoothing
+fn smoothing(s: &[f64], at: usize) -> Option<Coeffs>
     requires { at + 6 ≤ length s.now }
     ensures { result ≡ smoothing s.now at }
 {
     if on(s[at]) {
-        Smoothing::Present(coeffs(s, at + 1))
+        Some(coeffs(s, at + 1))
     } else {
-        Smoothing::Absent
+        None
     }
 }
 

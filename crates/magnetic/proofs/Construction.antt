@@ -1,4 +1,5 @@
 -- Each setting lies within its limits, and each coefficient within bounds that are computed from them.
+use Rattle.std.specs.Prelude.{Option}
 use Rattle.floats.specs.Prelude.{◌⊎◌, inl, inr, T, Float, Format, binary32, binary64, of_bits, neg, lt, finite}
 use Rattle.floats.specs.Notation.{zero, one}
 use Rattle.floats.specs.Tests.{both, either, is_true, keeps}
@@ -6,13 +7,14 @@ use Rattle.floats.specs.Order.{lt→nle, Within, within_finite, each_finite, bet
 use Rattle.filters.specs.Bounds.{Interval, GainConstant}
 use Rattle.filters.proofs.Bounds.{bounds, interval_finite}
 use Rattle.filters.specs.Channels.{finite_channel}
+use Rattle.filters.specs.declared.coeffs.Coeffs.{Coeffs}
 use Rattle.filters.specs.Banks.{finite_channels}
 use Rattle.limits.specs.Limits.{longest, least_tau, within, tau_or_off_taken, norm_threshold_limit, dip_threshold_limit, min_gyr_limit, rejection_factor_limit}
 use Rattle.magnetic.specs.Fields.{finite_field}
 use Rattle.magnetic.specs.Headings.{finite_heading}
 use Rattle.magnetic.specs.Setup.{taken, taus_taken, thresholds_taken, times_taken, smoothing_of, setup, restarted_field, fresh_state, new}
 use Rattle.magnetic.specs.Construction.{NewFinite}
-use Rattle.magnetic.specs.Types.{MagneticParams, NormDip, Smoothing}
+use Rattle.magnetic.specs.Types.{MagneticParams, NormDip}
 use Rattle.magnetic.specs.AllFinite.{finite_params, finite_smoothing, finite_coefficients}
 use Rattle.magnetic.proofs.Parts.{whole}
 
@@ -45,7 +47,7 @@ module _ (w : Format) where
   smoothing_finite : (tau ts : Float) → Interval w ts → OrOff ts tau → T (finite_smoothing (smoothing_of w tau ts))
   unfolding smoothing_of finite_smoothing
   smoothing_finite tau ts v u =
-      keeps (λ (s : Smoothing). T (finite_smoothing s)) (lt (zero w) tau) _ _
+      keeps (λ (s : Option Coeffs). T (finite_smoothing s)) (lt (zero w) tau) _ _
       (λ t. elim u [ inl off ↦ absurd (lt→nle (zero w) tau t off.1) | inr on ↦ (bounds w).filter_coeffs_finite tau ts v on ]) tt
 
   -- ---- what is taken, under the settings' names

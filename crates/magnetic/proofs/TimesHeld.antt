@@ -1,5 +1,6 @@
 -- No time of the field is below 0, and no count: an interval is added to a time, or it begins again at 0 or at a setting. The rejection time grows by an
 -- interval where it is at most its limit, and what is taken off it is at least 0.
+use Rattle.std.specs.Prelude.{Option, None, Some}
 use Rattle.floats.specs.Prelude.{◌&&◌, ◌||◌, List, T, Float, Format, binary32, binary64, add, sub, mul, neg, le, eq, fits, of_bits, add-fits, finite}
 use Rattle.floats.specs.Notation.{rounded, zero, one, pi}
 use Rattle.floats.specs.Decimals.{ten_thousandth, ten_thousand, half_turn}
@@ -16,6 +17,7 @@ use Rattle.algebra.specs.declared.vector.Vector.{Vector}
 use Rattle.filters.specs.Banks.{filter_vec2}
 use Rattle.filters.specs.Counts.{all_from_zero}
 use Rattle.filters.specs.declared.channel.Channel.{Channel}
+use Rattle.filters.specs.declared.coeffs.Coeffs.{Coeffs}
 use Rattle.filters.specs.Bounds.{Interval}
 use Rattle.filters.proofs.Counts.{channels_from_zero, fresh_from_zero}
 use Rattle.limits.specs.Limits.{rejection_factor_limit}
@@ -23,8 +25,7 @@ use Rattle.magnetic.specs.Fields.{smoothed, near, undisturbed, reference_step, c
 use Rattle.magnetic.specs.Headings.{rejected}
 use Rattle.magnetic.specs.Setup.{restarted_field}
 use Rattle.magnetic.specs.Told.{with_reject_t}
-use Rattle.magnetic.specs.Types.{Field, MagneticCoefficients, MagneticParams, NormDip, Smoothing, Rejection}
-use Rattle.magnetic.specs.declared.types.Smoothing.TheVariants.{Absent, Present}
+use Rattle.magnetic.specs.Types.{Field, MagneticCoefficients, MagneticParams, NormDip, Rejection}
 use Rattle.magnetic.proofs.HeadingComputed.{Factor}
 
 -- ---- what the prover computes in each format
@@ -162,10 +163,10 @@ module _ (w : Format) (p : MagneticParams) (c : MagneticCoefficients) where
 
 -- ---- the filter of norm and dip, absent or present
 module _ (w : Format) (p : MagneticParams) (c : MagneticCoefficients) (f : Field) (x : NormDip) (tau ts k k_ref : Float) where
-  smoothed_held : (s : Smoothing) → TimesHeld w p c f → TimesHeld w p c (smoothed w f x tau (record { mag_ts = ts; k_mag = k; k_mag_ref = k_ref; mag_norm_dip_lp = s }))
+  smoothed_held : (s : Option Coeffs) → TimesHeld w p c f → TimesHeld w p c (smoothed w f x tau (record { mag_ts = ts; k_mag = k; k_mag_ref = k_ref; mag_norm_dip_lp = s }))
   unfolding smoothed filter_vec2
-  smoothed_held Absent h = h
-  smoothed_held (Present q) h = record { rejecting = h.rejecting; undisturbed = h.undisturbed; candidate = h.candidate; counts = channels_from_zero w 2 _ tau ts q f.mag_norm_dip_lp_state h.counts }
+  smoothed_held None h = h
+  smoothed_held (Some q) h = record { rejecting = h.rejecting; undisturbed = h.undisturbed; candidate = h.candidate; counts = channels_from_zero w 2 _ tau ts q f.mag_norm_dip_lp_state h.counts }
 
 pub field_held : (w : Format) (p : MagneticParams) (c : MagneticCoefficients) → TimesSet w p c → (f : Field) (mag_earth gyr_lp : Vector) → TimesHeld w p c f → TimesHeld w p c (field_step w f p c mag_earth gyr_lp)
 unfolding field_step

@@ -1,15 +1,14 @@
 -- Whether every number that the magnetic half stores is finite, group by group. Flags are no numbers.
-use Rattle.std.specs.Prelude.{Bool, true, ◌&&◌}
+use Rattle.std.specs.Prelude.{Bool, true, ◌&&◌, Option, None, Some}
 use Rattle.std.specs.Float.Ieee.Scale.{finite}
 use Rattle.filters.specs.Coefficients.{finite_coeffs}
+use Rattle.filters.specs.declared.coeffs.Coeffs.{Coeffs}
 use Rattle.magnetic.specs.Fields.{finite_field}
 use Rattle.magnetic.specs.Headings.{finite_heading}
 use Rattle.magnetic.specs.declared.types.Magnetic.{Magnetic}
 use Rattle.magnetic.specs.declared.types.MagneticCoefficients.{MagneticCoefficients}
 use Rattle.magnetic.specs.declared.types.MagneticParams.{MagneticParams}
 use Rattle.magnetic.specs.declared.types.MagneticState.{MagneticState}
-use Rattle.magnetic.specs.declared.types.Smoothing.{Smoothing}
-use Rattle.magnetic.specs.declared.types.Smoothing.TheVariants.{Absent, Present}
 
 unfoldable pub finite_params : MagneticParams → Bool
 finite_params p =
@@ -25,9 +24,9 @@ finite_params p =
     && finite p.mag_max_rejection_time
     && finite p.mag_rejection_factor
 
-unfoldable pub finite_smoothing : Smoothing → Bool
-finite_smoothing Absent = true
-finite_smoothing (Present k) = finite_coeffs k
+unfoldable pub finite_smoothing : Option Coeffs → Bool
+finite_smoothing None = true
+finite_smoothing (Some k) = finite_coeffs k
 
 unfoldable pub finite_coefficients : MagneticCoefficients → Bool
 finite_coefficients c = finite c.mag_ts && finite c.k_mag && finite c.k_mag_ref && finite_smoothing c.mag_norm_dip_lp

@@ -1,5 +1,5 @@
 -- What a magnetometer sample tells of the field, over the format w.
-use Rattle.std.specs.Prelude.{Bool, true, false, cond, ◌&&◌, ◌||◌, [], ◌∷◌, get_or, Float}
+use Rattle.std.specs.Prelude.{Bool, true, false, cond, ◌&&◌, ◌||◌, [], ◌∷◌, get_or, Option, None, Some, Float}
 use Rattle.std.specs.Float.{nan, Format}
 use Rattle.std.specs.Float.Ieee.{neg, lt, le, eq}
 use Rattle.std.specs.Float.Ieee.Scale.{finite}
@@ -11,13 +11,12 @@ use Rattle.algebra.specs.Vectors.{norm}
 use Rattle.algebra.specs.declared.vector.Vector.{Vector}
 use Rattle.filters.specs.Banks.{filter_vec2, finite_channels}
 use Rattle.filters.specs.declared.bank.Filtered2.{Filtered2}
+use Rattle.filters.specs.declared.coeffs.Coeffs.{Coeffs}
 use Rattle.magnetic.specs.Told.{norm_dip, with_reference, with_candidate, with_norm_dip}
 use Rattle.magnetic.specs.declared.types.Field.{Field}
 use Rattle.magnetic.specs.declared.types.NormDip.{NormDip}
 use Rattle.magnetic.specs.declared.types.MagneticParams.{MagneticParams}
 use Rattle.magnetic.specs.declared.types.MagneticCoefficients.{MagneticCoefficients}
-use Rattle.magnetic.specs.declared.types.Smoothing.{Smoothing}
-use Rattle.magnetic.specs.declared.types.Smoothing.TheVariants.{Absent, Present}
 
 unfoldable pub finite_field : Field → Bool
 finite_field f =
@@ -38,9 +37,9 @@ module _ (w : Format) where
   unfoldable pub norm_and_dip : Vector → NormDip
   norm_and_dip v = norm_dip (norm w v) (neg (asin w (v.2 ⊘ norm w v)))
 
-  abbrev smoothed_by : Field → NormDip → Float → Float → Smoothing → Field
-  smoothed_by f x tau ts Absent = with_norm_dip f x f.mag_norm_dip_lp_state
-  smoothed_by f x tau ts (Present k) =
+  abbrev smoothed_by : Field → NormDip → Float → Float → Option Coeffs → Field
+  smoothed_by f x tau ts None = with_norm_dip f x f.mag_norm_dip_lp_state
+  smoothed_by f x tau ts (Some k) =
       let g : Filtered2 = filter_vec2 w (x.0 ∷ x.1 ∷ []) tau ts k f.mag_norm_dip_lp_state in
       with_norm_dip f (norm_dip (get_or g.y 0 nan) (get_or g.y 1 nan)) g.channels
 

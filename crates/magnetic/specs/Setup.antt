@@ -1,11 +1,12 @@
 -- The house settings, which settings are taken, and the coefficients and the fresh state that they give, over the format w.
-use Rattle.std.specs.Prelude.{Bool, true, cond, ◌&&◌, replicate, Float}
+use Rattle.std.specs.Prelude.{Bool, true, cond, ◌&&◌, replicate, Option, None, Some, Float}
 use Rattle.std.specs.Float.{Format}
 use Rattle.std.specs.Float.Ieee.{neg, lt}
 use Rattle.floats.specs.Notation.{zero, half, one, two}
 use Rattle.floats.specs.Decimals.{five, nine, ten, twenty, sixty, tenth, twentieth}
 use Rattle.filters.specs.Channels.{fresh}
 use Rattle.filters.specs.Coefficients.{filter_coeffs, gain_from_tau}
+use Rattle.filters.specs.declared.coeffs.Coeffs.{Coeffs}
 use Rattle.limits.specs.Limits.{interval_taken, tau_or_off_taken, gain_tau_taken, duration_taken, norm_threshold_taken, dip_threshold_taken, min_gyr_taken, rejection_factor_taken}
 use Rattle.magnetic.specs.Told.{norm_dip, state_of}
 use Rattle.magnetic.specs.declared.types.Field.{Field}
@@ -14,8 +15,6 @@ use Rattle.magnetic.specs.declared.types.MagneticCoefficients.{MagneticCoefficie
 use Rattle.magnetic.specs.declared.types.MagneticParams.{MagneticParams}
 use Rattle.magnetic.specs.declared.types.MagneticState.{MagneticState}
 use Rattle.magnetic.specs.declared.types.NormDip.{NormDip}
-use Rattle.magnetic.specs.declared.types.Smoothing.{Smoothing}
-use Rattle.magnetic.specs.declared.types.Smoothing.TheVariants.{Absent, Present}
 
 module _ (w : Format) where
   unfoldable pub house : MagneticParams
@@ -53,8 +52,8 @@ module _ (w : Format) where
   unfoldable pub taken : MagneticParams → Float → Bool
   taken p mag_ts = interval_taken w mag_ts && taus_taken p mag_ts && thresholds_taken p && times_taken p
 
-  unfoldable pub smoothing_of : Float → Float → Smoothing
-  smoothing_of tau mag_ts = cond (lt (zero w) tau) (Present (filter_coeffs tau mag_ts)) Absent
+  unfoldable pub smoothing_of : Float → Float → Option Coeffs
+  smoothing_of tau mag_ts = cond (lt (zero w) tau) (Some (filter_coeffs tau mag_ts)) None
 
   unfoldable pub setup : MagneticParams → Float → MagneticCoefficients
   setup p mag_ts = record {

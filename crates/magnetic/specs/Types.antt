@@ -9,4 +9,3 @@ pub use Rattle.magnetic.specs.declared.types.MagneticParams.{MagneticParams}
 pub use Rattle.magnetic.specs.declared.types.MagneticState.{MagneticState}
 pub use Rattle.magnetic.specs.declared.types.NormDip.{NormDip}
 pub use Rattle.magnetic.specs.declared.types.Seen.{Seen}
-pub use Rattle.magnetic.specs.declared.types.Smoothing.{Smoothing}

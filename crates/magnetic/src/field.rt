@@ -4,7 +4,7 @@ ghost use Rattle.std.specs.Float.{binary64};
 ghost use Rattle.magnetic.specs.Told.{with_reference, with_candidate};
 ghost use Rattle.magnetic.specs.Fields.{norm_and_dip, smoothed, near, undisturbed, reference_step, followed, candidate_time, counted_candidate, accepted, candidate_step, field_step, finite_field};
 
-use crate::types::{Field, MagneticCoefficients, MagneticParams, NormDip, Smoothing};
+use crate::types::{Field, MagneticCoefficients, MagneticParams, NormDip};
 use algebra::Vector;
 use floats::PI;
 
@@ -21,11 +21,11 @@ fn smoothed(f: Field, raw: NormDip, tau: f64, c: MagneticCoefficients) -> Field
     let smoothing = c.mag_norm_dip_lp;
     let mut next = f;
     match smoothing {
-        Smoothing::Absent => {
+        None => {
             next.mag_norm_dip = raw;
             next
         }
-        Smoothing::Present(k) => {
+        Some(k) => {
             let before = f.mag_norm_dip_lp_state;
             let g = filters::bank::filter_vec2([raw.0, raw.1], tau, c.mag_ts, k, before);
             let y = g.y;

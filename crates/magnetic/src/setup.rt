@@ -5,9 +5,8 @@ ghost use Rattle.magnetic.specs.Setup.{house, taus_taken, thresholds_taken, time
 
 use crate::types::{
     Field, Heading, Magnetic, MagneticCoefficients, MagneticParams, MagneticState, NormDip,
-    Smoothing,
 };
-use filters::Channel;
+use filters::{Channel, Coeffs};
 use limits::{sample, setting};
 
 impl MagneticParams {
@@ -66,13 +65,13 @@ pub fn taken(p: MagneticParams, mag_ts: f64) -> bool
     sample::interval_taken(mag_ts) & taus_taken(p, mag_ts) & thresholds_taken(p) & times_taken(p)
 }
 
-fn smoothing_of(tau: f64, mag_ts: f64) -> Smoothing
+fn smoothing_of(tau: f64, mag_ts: f64) -> Option<Coeffs>
     ensures { result ≡ smoothing_of binary64 tau mag_ts }
 {
     if tau > 0.0 {
-        Smoothing::Present(filters::filter_coeffs(tau, mag_ts))
+        Some(filters::filter_coeffs(tau, mag_ts))
     } else {
-        Smoothing::Absent
+        None
     }
 }
 

@@ -17,19 +17,13 @@ pub struct MagneticParams {
     pub mag_rejection_factor: f64,
 }
 
-// The filter of the norm and dip, where there is one.
-#[derive(Clone, Copy)]
-pub enum Smoothing {
-    Absent,
-    Present(Coeffs),
-}
-
 #[derive(Clone, Copy)]
 pub struct MagneticCoefficients {
     pub mag_ts: f64,
     pub k_mag: f64,
     pub k_mag_ref: f64,
-    pub mag_norm_dip_lp: Smoothing,
+    // The filter of the norm and dip, where there is one.
+    pub mag_norm_dip_lp: Option<Coeffs>,
 }
 
 // A norm and a dip.

@@ -3,10 +3,10 @@ use Rattle.image.specs.Marks.{flag}
 use Rattle.image.specs.Pack.{magnetic_coeffs}
 use Rattle.image.proofs.pack.magnetic_coeffs.Goals as goal
 
-pub returns-in-Absent : goal.returns-in-Absent
+pub returns-in-None : goal.returns-in-None
 unfolding magnetic_coeffs flag
-returns-in-Absent c = simp c.in-Absent.is
+returns-in-None c = simp c.in-None.is
 
-pub returns-in-Present : goal.returns-in-Present
+pub returns-in-Some : goal.returns-in-Some
 unfolding magnetic_coeffs flag
-returns-in-Present c = simp c.in-Present.is
+returns-in-Some c = simp c.in-Some.is

@@ -2,10 +2,10 @@
 use Rattle.magnetic.specs.Fields.{smoothed}
 use Rattle.magnetic.proofs.field.smoothed.Goals as goal
 
-pub returns-in-Absent : goal.returns-in-Absent
+pub returns-in-None : goal.returns-in-None
 unfolding smoothed
-returns-in-Absent c = simp c.in-Absent.is
+returns-in-None c = simp c.in-None.is
 
-pub returns-in-Present : goal.returns-in-Present
+pub returns-in-Some : goal.returns-in-Some
 unfolding smoothed
-returns-in-Present c = simp (c.filter_vec2-g.ensures, c.in-Present.is)
+returns-in-Some c = simp (c.filter_vec2-g.ensures, c.in-Some.is)
