@@ -10,7 +10,7 @@ use Rattle.limits.proofs.Table.{exactly}
 use Rattle.magnetic.specs.AllFinite.{all_finite}
 use Rattle.magnetic.specs.Step.{tried, mag_step, update_mag}
 use Rattle.magnetic.specs.Setters.{set_tau_mag, set_mag_ref}
-use Rattle.magnetic.specs.Told.{state_of, with_state, with_reference}
+use Rattle.magnetic.specs.Told.{norm_dip, state_of, with_state, with_reference}
 use Rattle.magnetic.specs.Calls as calls
 use Rattle.magnetic.specs.Answers.{after_mag, after_tau_mag, faults, Answers}
 use Rattle.magnetic.specs.Types.{Magnetic, Seen}
@@ -35,7 +35,7 @@ module _ (w : Format) where
   mag_ref_says : (f : Magnetic) (s : Seen) (norm dip : Float)
       → let g = f.state.field in
       Says (first (faults w f s (calls.set_mag_ref norm dip)))
-      (with_state f (state_of f.state.heading (with_reference g g.mag_dist_detected norm dip g.mag_undisturbed_t))) f (set_mag_ref w f norm dip)
+      (with_state f (state_of f.state.heading (with_reference g g.mag_dist_detected (norm_dip norm dip) g.mag_undisturbed_t))) f (set_mag_ref w f norm dip)
   unfolding set_mag_ref
   mag_ref_says f s norm dip = setting (ref_norm_taken w norm && ref_dip_taken w dip) _ f
 

@@ -11,7 +11,7 @@ use Rattle.magnetic.specs.AllFinite.{finite_params, all_finite}
 use Rattle.magnetic.specs.Fields.{finite_field}
 use Rattle.magnetic.specs.Step.{tried, mag_step, update_mag}
 use Rattle.magnetic.specs.Setters.{set_tau_mag, set_mag_ref, restarted, reset_state}
-use Rattle.magnetic.specs.Told.{state_of, with_state, with_reference}
+use Rattle.magnetic.specs.Told.{norm_dip, state_of, with_state, with_reference}
 use Rattle.magnetic.specs.Types.{Field, Magnetic, MagneticParams, Seen}
 use Rattle.magnetic.proofs.Parts.{parts, whole, field_parts}
 use Rattle.magnetic.proofs.Construction.{restarted_field_finite, fresh_finite}
@@ -27,7 +27,7 @@ with_field : (f : Magnetic) (g : Field) → Fine f → T (finite_field g) → Fi
 with_field f g h k = let p = parts f h in whole _ (record { params = p.params; coeffs = p.coeffs; heading = p.heading; field = k })
 
 field_with_reference : (g : Field) (norm dip : Float) → T (finite_field g) → T (finite norm) → T (finite dip)
-    → T (finite_field (with_reference g g.mag_dist_detected norm dip g.mag_undisturbed_t))
+    → T (finite_field (with_reference g g.mag_dist_detected (norm_dip norm dip) g.mag_undisturbed_t))
 unfolding finite_field
 field_with_reference g norm dip h a b =
     let k = field_parts g h in

@@ -11,6 +11,7 @@ use Rattle.filters.specs.declared.channel.Channel.{Channel}
 use Rattle.filters.specs.Coefficients.{gain_from_tau}
 use Rattle.filters.proofs.Gains.{gain_within}
 use Rattle.limits.specs.Answers.{Told}
+use Rattle.limits.specs.declared.updated.Tried.{Tried}
 use Rattle.limits.specs.Limits.{least_tau, mag_taken, zero_sample, gain_tau_taken, ref_norm_taken, ref_dip_taken}
 use Rattle.magnetic.specs.Headings.{wrapped, lifted, corrected}
 use Rattle.magnetic.specs.HowFar.{gain_rejecting, gain_used, Moved}
@@ -18,7 +19,7 @@ use Rattle.magnetic.specs.Setup.{taken, setup, fresh_state, new}
 use Rattle.magnetic.specs.Setters.{set_tau_mag, set_mag_ref, restarted, reset_state}
 use Rattle.magnetic.specs.Calls as calls
 use Rattle.magnetic.specs.Step.{tried_rejecting, tried_plain, tried, mag_step, update_mag}
-use Rattle.magnetic.specs.Types.{Magnetic, MagneticCoefficients, MagneticParams, MagneticState, Seen, TriedState}
+use Rattle.magnetic.specs.Types.{Magnetic, MagneticCoefficients, MagneticParams, MagneticState, Seen}
 use Rattle.magnetic.proofs.Answers.{answers}
 use Rattle.magnetic.proofs.Construction.{tau_or_off, opened}
 use Rattle.magnetic.proofs.HeadingHeld.{Headed, HeadingHeld, rejected_within, lifted_within, corrected_held, moved}
@@ -67,8 +68,8 @@ module _ (w : Format) where
     abbrev StateHeld : MagneticState → Type 0
     StateHeld s = HeadingHeld w s.heading × TimesHeld w f.params f.coeffs s.field
 
-    abbrev TriedHeld : TriedState → Type 0
-    TriedHeld t = T t.finite → StateHeld t.state
+    abbrev TriedHeld : Tried MagneticState → Type 0
+    TriedHeld t = T t.finite → StateHeld t.value
 
     rejecting_held : (mag_earth gyr_lp : Vector) → TriedHeld (tried_rejecting w f.state f.params f.coeffs mag_earth gyr_lp)
     unfolding tried_rejecting
@@ -135,7 +136,7 @@ module _ (w : Format) where
         h.heading.3
 
     goes : (seen : Seen) (mag : Vector)
-        → let g = (tried w f.state f.params f.coeffs seen mag).state.heading in
+        → let g = (tried w f.state f.params f.coeffs seen mag).value.heading in
         g.delta ≡ wrapped w (f.state.heading.delta ⊕ gain_used w f seen mag ⊗ g.last_mag_dis_angle)
     unfolding tried tried_rejecting tried_plain corrected
     goes seen mag = go seen.mag_dist_rejection_enabled
@@ -143,14 +144,14 @@ module _ (w : Format) where
         mag_earth : Vector
         mag_earth = rotate w seen.quat_6d mag
 
-        rejecting : TriedState
+        rejecting : Tried MagneticState
         rejecting = tried_rejecting w f.state f.params f.coeffs mag_earth seen.rest_last_gyr_lp
 
-        plain : TriedState
+        plain : Tried MagneticState
         plain = tried_plain w f.state f.params f.coeffs mag_earth
 
         go : (on : Bool)
-            → let g = (cond on rejecting plain).state.heading in
+            → let g = (cond on rejecting plain).value.heading in
             g.delta ≡ wrapped w (f.state.heading.delta ⊕ lifted w (cond on (gain_rejecting w f seen mag) f.coeffs.k_mag) f.state.heading.k_mag_init ⊗ g.last_mag_dis_angle)
         go true = refl
         go false = refl

@@ -5,19 +5,20 @@ use Rattle.floats.specs.Tests.{both, is_true, alike, keeps}
 use Rattle.floats.specs.Order.{each_finite}
 use Rattle.algebra.specs.declared.vector.Vector.{Vector}
 use Rattle.filters.specs.Coefficients.{gain_from_tau}
+use Rattle.limits.specs.declared.updated.Tried.{Tried}
 use Rattle.limits.specs.Limits.{least_tau, gain_tau_taken}
 use Rattle.magnetic.specs.AllFinite.{finite_params, finite_coefficients, finite_state, all_finite}
 use Rattle.magnetic.specs.Step.{tried_rejecting, tried_plain, tried}
 use Rattle.magnetic.specs.Setters.{with_tau_mag, with_k_mag}
 use Rattle.magnetic.specs.Answers.{after_mag, after_tau_mag}
-use Rattle.magnetic.specs.Types.{Magnetic, MagneticCoefficients, MagneticParams, MagneticState, Seen, TriedState}
+use Rattle.magnetic.specs.Types.{Magnetic, MagneticCoefficients, MagneticParams, MagneticState, Seen}
 use Rattle.magnetic.proofs.Construction.{tau_or_off, either_finite}
 use Rattle.magnetic.proofs.Parts.{parts, whole, coefficient_parts, tau_mag_finite}
 
 -- ---- the step
-record Tested (t : TriedState) : Type 0 where
-  enough : T t.finite → T (finite_state t.state)
-  needed : T (finite_state t.state) → T t.finite
+record Tested (t : Tried MagneticState) : Type 0 where
+  enough : T t.finite → T (finite_state t.value)
+  needed : T (finite_state t.value) → T t.finite
 
 module _ (w : Format) where
   rejecting_tested : (s : MagneticState) (p : MagneticParams) (c : MagneticCoefficients) (mag_earth gyr_lp : Vector) → Tested (tried_rejecting w s p c mag_earth gyr_lp)

@@ -24,7 +24,7 @@ use Rattle.limits.specs.Limits.{rejection_factor_limit}
 use Rattle.magnetic.specs.Fields.{smoothed, near, undisturbed, reference_step, candidate_time, counted_candidate, accepted, candidate_step, field_step, norm_and_dip}
 use Rattle.magnetic.specs.Headings.{rejected}
 use Rattle.magnetic.specs.Setup.{restarted_field}
-use Rattle.magnetic.specs.Told.{with_reject_t}
+use Rattle.magnetic.specs.Told.{reference, candidate, with_reject_t}
 use Rattle.magnetic.specs.Types.{Field, MagneticCoefficients, MagneticParams, NormDip, Rejection}
 use Rattle.magnetic.proofs.HeadingComputed.{Factor}
 
@@ -112,7 +112,7 @@ module _ (w : Format) (p : MagneticParams) (c : MagneticCoefficients) where
     reference_held : (f : Field) → TimesHeld f → TimesHeld (reference_step w f p c)
     unfolding reference_step
     reference_held f h =
-        keeps TimesHeld (near w f.mag_norm_dip f.mag_ref_norm f.mag_ref_dip p) _ _ (λ _. undisturbed_held f h)
+        keeps TimesHeld (near w f.mag_norm_dip (reference f) p) _ _ (λ _. undisturbed_held f h)
         (record { rejecting = h.rejecting; undisturbed = zero_from w; candidate = h.candidate; counts = h.counts })
 
     counted_held : (f : Field) (gyr : Float) → TimesHeld f → TimesHeld (counted_candidate w f p c gyr)
@@ -131,7 +131,7 @@ module _ (w : Format) (p : MagneticParams) (c : MagneticCoefficients) where
     candidate_held : (f : Field) (gyr : Float) → TimesHeld f → TimesHeld (candidate_step w f p c gyr)
     unfolding candidate_step
     candidate_held f gyr h =
-        keeps TimesHeld (near w f.mag_norm_dip f.mag_candidate_norm f.mag_candidate_dip p) _ _ (λ _. accepted_held _ (counted_held f gyr h))
+        keeps TimesHeld (near w f.mag_norm_dip (candidate f) p) _ _ (λ _. accepted_held _ (counted_held f gyr h))
         (record { rejecting = h.rejecting; undisturbed = h.undisturbed; candidate = zero_from w; counts = h.counts })
 
     -- ---- what rejection leaves

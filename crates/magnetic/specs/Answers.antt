@@ -17,7 +17,7 @@ use Rattle.magnetic.specs.declared.types.Seen.{Seen}
 module _ (w : Format) where
   -- ---- What a call would leave, were nothing wrong with it.
   abbrev pub after_mag : Magnetic → Seen → Vector → Magnetic
-  after_mag f seen mag = with_state f (tried w f.state f.params f.coeffs seen mag).state
+  after_mag f seen mag = with_state f (tried w f.state f.params f.coeffs seen mag).value
 
   abbrev pub after_tau_mag : Magnetic → Float → Magnetic
   after_tau_mag f tau =

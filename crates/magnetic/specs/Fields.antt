@@ -12,7 +12,7 @@ use Rattle.algebra.specs.declared.vector.Vector.{Vector}
 use Rattle.filters.specs.Banks.{filter_vec2, finite_channels}
 use Rattle.filters.specs.declared.bank.Filtered2.{Filtered2}
 use Rattle.filters.specs.declared.coeffs.Coeffs.{Coeffs}
-use Rattle.magnetic.specs.Told.{norm_dip, with_reference, with_candidate, with_norm_dip}
+use Rattle.magnetic.specs.Told.{norm_dip, reference, candidate, with_reference, with_candidate, with_norm_dip}
 use Rattle.magnetic.specs.declared.types.Field.{Field}
 use Rattle.magnetic.specs.declared.types.NormDip.{NormDip}
 use Rattle.magnetic.specs.declared.types.MagneticParams.{MagneticParams}
@@ -46,30 +46,30 @@ module _ (w : Format) where
   unfoldable pub smoothed : Field → NormDip → Float → MagneticCoefficients → Field
   smoothed f x tau c = smoothed_by f x tau c.mag_ts c.mag_norm_dip_lp
 
-  unfoldable pub near : NormDip → Float → Float → MagneticParams → Bool
-  near x norm dip p =
-      lt (magnitude (x.0 ⊖ norm)) (p.mag_norm_th ⊗ norm)
-      && lt (magnitude (x.1 ⊖ dip)) (p.mag_dip_th ⊗ (pi w ⊘ half_turn w))
+  unfoldable pub near : NormDip → NormDip → MagneticParams → Bool
+  near x y p =
+      lt (magnitude (x.0 ⊖ y.0)) (p.mag_norm_th ⊗ y.0)
+      && lt (magnitude (x.1 ⊖ y.1)) (p.mag_dip_th ⊗ (pi w ⊘ half_turn w))
 
   unfoldable pub followed : Float → Float → Float → Float
   followed x k y = x ⊕ k ⊗ (y ⊖ x)
+
+  unfoldable pub both_followed : NormDip → Float → NormDip → NormDip
+  both_followed x k y = norm_dip (followed x.0 k y.0) (followed x.1 k y.1)
 
   unfoldable pub undisturbed : Field → MagneticParams → MagneticCoefficients → Field
   undisturbed f p c =
       let t = f.mag_undisturbed_t ⊕ c.mag_ts in
       cond (le p.mag_min_undisturbed_time t)
-      (with_reference f false
-      (followed f.mag_ref_norm c.k_mag_ref f.mag_norm_dip.0)
-      (followed f.mag_ref_dip c.k_mag_ref f.mag_norm_dip.1)
-      t)
-      (with_reference f f.mag_dist_detected f.mag_ref_norm f.mag_ref_dip t)
+      (with_reference f false (both_followed (reference f) c.k_mag_ref f.mag_norm_dip) t)
+      (with_reference f f.mag_dist_detected (reference f) t)
 
   -- magnetic disturbance detection
   unfoldable pub reference_step : Field → MagneticParams → MagneticCoefficients → Field
   reference_step f p c =
-      cond (near f.mag_norm_dip f.mag_ref_norm f.mag_ref_dip p)
+      cond (near f.mag_norm_dip (reference f) p)
       (undisturbed f p c)
-      (with_reference f true f.mag_ref_norm f.mag_ref_dip (zero w))
+      (with_reference f true (reference f) (zero w))
 
   -- time counts while the reader turns fast enough
   unfoldable pub candidate_time : Float → MagneticParams → Float → Float → Float
@@ -77,25 +77,22 @@ module _ (w : Format) where
 
   unfoldable pub counted_candidate : Field → MagneticParams → MagneticCoefficients → Float → Field
   counted_candidate f p c gyr =
-      with_candidate f
-      (followed f.mag_candidate_norm c.k_mag_ref f.mag_norm_dip.0)
-      (followed f.mag_candidate_dip c.k_mag_ref f.mag_norm_dip.1)
-      (candidate_time f.mag_candidate_t p c.mag_ts gyr)
+      with_candidate f (both_followed (candidate f) c.k_mag_ref f.mag_norm_dip) (candidate_time f.mag_candidate_t p c.mag_ts gyr)
 
   unfoldable pub accepted : Field → MagneticParams → Field
   accepted f p =
       let t = f.mag_candidate_t in
       cond
       (f.mag_dist_detected && (le p.mag_new_time t || eq f.mag_ref_norm (zero w) && le p.mag_new_first_time t))
-      (with_reference f false f.mag_candidate_norm f.mag_candidate_dip p.mag_min_undisturbed_time)
+      (with_reference f false (candidate f) p.mag_min_undisturbed_time)
       f
 
   -- new magnetic field acceptance
   unfoldable pub candidate_step : Field → MagneticParams → MagneticCoefficients → Float → Field
   candidate_step f p c gyr =
-      cond (near f.mag_norm_dip f.mag_candidate_norm f.mag_candidate_dip p)
+      cond (near f.mag_norm_dip (candidate f) p)
       (accepted (counted_candidate f p c gyr) p)
-      (with_candidate f f.mag_norm_dip.0 f.mag_norm_dip.1 (zero w))
+      (with_candidate f f.mag_norm_dip (zero w))
 
   unfoldable pub field_step : Field → MagneticParams → MagneticCoefficients → Vector → Vector → Field
   field_step f p c mag_earth gyr_lp =

@@ -5,30 +5,17 @@ use Rattle.std.specs.Float.Ieee.Scale.{finite}
 use Rattle.filters.specs.Coefficients.{gain_from_tau}
 use Rattle.limits.specs.Answers.{Told, told}
 use Rattle.limits.specs.Limits.{gain_tau_taken, ref_norm_taken, ref_dip_taken}
-use Rattle.magnetic.specs.Told.{state_of, with_state, with_reference}
+use Rattle.magnetic.specs.Told.{norm_dip, state_of, with_state, with_reference}
 use Rattle.magnetic.specs.Setup.{restarted_field, fresh_state}
 use Rattle.magnetic.specs.declared.types.Magnetic.{Magnetic}
 use Rattle.magnetic.specs.declared.types.MagneticCoefficients.{MagneticCoefficients}
 use Rattle.magnetic.specs.declared.types.MagneticParams.{MagneticParams}
 
 abbrev pub with_tau_mag : MagneticParams → Float → MagneticParams
-with_tau_mag p tau =
-    record {
-      tau_mag = tau;
-      mag_current_tau = p.mag_current_tau;
-      mag_ref_tau = p.mag_ref_tau;
-      mag_norm_th = p.mag_norm_th;
-      mag_dip_th = p.mag_dip_th;
-      mag_new_time = p.mag_new_time;
-      mag_new_first_time = p.mag_new_first_time;
-      mag_new_min_gyr = p.mag_new_min_gyr;
-      mag_min_undisturbed_time = p.mag_min_undisturbed_time;
-      mag_max_rejection_time = p.mag_max_rejection_time;
-      mag_rejection_factor = p.mag_rejection_factor;
-    }
+with_tau_mag p tau = record p { tau_mag = tau }
 
 abbrev pub with_k_mag : MagneticCoefficients → Float → MagneticCoefficients
-with_k_mag c k = record { mag_ts = c.mag_ts; k_mag = k; k_mag_ref = c.k_mag_ref; mag_norm_dip_lp = c.mag_norm_dip_lp }
+with_k_mag c k = record c { k_mag = k }
 
 module _ (w : Format) where
   unfoldable pub set_tau_mag : Magnetic → Float → Told Magnetic
@@ -44,7 +31,7 @@ module _ (w : Format) where
   set_mag_ref f norm dip =
       let g = f.state.field in
       cond (ref_norm_taken w norm && ref_dip_taken w dip)
-      (told 0 (with_state f (state_of f.state.heading (with_reference g g.mag_dist_detected norm dip g.mag_undisturbed_t))))
+      (told 0 (with_state f (state_of f.state.heading (with_reference g g.mag_dist_detected (norm_dip norm dip) g.mag_undisturbed_t))))
       (told 4 f)
 
   -- what a change of the disturbance switch leaves

@@ -1,6 +1,5 @@
 -- The types of the code, by their names.
 pub use Rattle.magnetic.specs.declared.heading.Rejection.{Rejection}
-pub use Rattle.magnetic.specs.declared.step.TriedState.{TriedState}
 pub use Rattle.magnetic.specs.declared.types.Field.{Field}
 pub use Rattle.magnetic.specs.declared.types.Heading.{Heading}
 pub use Rattle.magnetic.specs.declared.types.Magnetic.{Magnetic}

@@ -1,7 +1,6 @@
 // The gain of a heading correction, and the correction.
 ghost use Rattle.std.specs.Prelude.{◌≡◌};
 ghost use Rattle.std.specs.Float.{binary64};
-ghost use Rattle.magnetic.specs.Told.{with_reject_t};
 ghost use Rattle.magnetic.specs.Headings.{wrapped, rejected, lifted, next_init, corrected, finite_heading};
 
 use crate::types::{Field, Heading, MagneticCoefficients, MagneticParams};
@@ -15,6 +14,7 @@ pub struct Rejection {
 }
 
 // An angle that is at most a turn out, within ±PI.
+#[tactic(auto, unfolding(crate::specs::Headings::wrapped))]
 pub fn wrapped(x: f64) -> f64
     ensures { result ≡ wrapped binary64 x }
 {
@@ -27,35 +27,41 @@ pub fn wrapped(x: f64) -> f64
     }
 }
 
-fn with_reject_t(f: Field, t: f64) -> Field
-    ensures { result ≡ with_reject_t f t }
-{
-    let mut next = f;
-    next.mag_reject_t = t;
-    next
-}
-
 // Magnetic disturbance rejection.
+#[tactic(auto, unfolding(crate::specs::Headings::rejected, crate::specs::Told::with_reject_t))]
 pub fn rejected(f: Field, p: MagneticParams, c: MagneticCoefficients) -> Rejection
     ensures { result ≡ rejected binary64 f p c }
 {
     let t = f.mag_reject_t;
     if f.mag_dist_detected {
         if t <= p.mag_max_rejection_time {
-            let field = with_reject_t(f, t + c.mag_ts);
-            Rejection { k: 0.0, field }
+            Rejection {
+                k: 0.0,
+                field: Field {
+                    mag_reject_t: t + c.mag_ts,
+                    ..f
+                },
+            }
         } else {
-            let k = c.k_mag / p.mag_rejection_factor;
-            Rejection { k, field: f }
+            Rejection {
+                k: c.k_mag / p.mag_rejection_factor,
+                field: f,
+            }
         }
     } else {
         let left = floats::larger(0.0, t - p.mag_rejection_factor * c.mag_ts);
-        let field = with_reject_t(f, left);
-        Rejection { k: c.k_mag, field }
+        Rejection {
+            k: c.k_mag,
+            field: Field {
+                mag_reject_t: left,
+                ..f
+            },
+        }
     }
 }
 
 // The gain in the first samples is at least 1/N.
+#[tactic(auto, unfolding(crate::specs::Headings::lifted))]
 fn lifted(k: f64, init: f64) -> f64
     ensures { result ≡ lifted binary64 k init }
 {
@@ -63,6 +69,7 @@ fn lifted(k: f64, init: f64) -> f64
 }
 
 // 1/(N + 1) from 1/N, and 0 after tau_mag.
+#[tactic(auto, unfolding(crate::specs::Headings::next_init))]
 fn next_init(init: f64, tau_mag: f64, mag_ts: f64) -> f64
     ensures { result ≡ next_init binary64 init tau_mag mag_ts }
 {
@@ -75,6 +82,7 @@ fn next_init(init: f64, tau_mag: f64, mag_ts: f64) -> f64
 }
 
 // The heading after a correction with at least the gain k towards angle.
+#[tactic(auto, unfolding(crate::specs::Headings::corrected))]
 pub fn corrected(h: Heading, angle: f64, k: f64, tau_mag: f64, mag_ts: f64) -> Heading
     ensures { result ≡ corrected binary64 h angle k tau_mag mag_ts }
 {
@@ -89,6 +97,7 @@ pub fn corrected(h: Heading, angle: f64, k: f64, tau_mag: f64, mag_ts: f64) -> H
 }
 
 // Whether all that the heading group stores is finite.
+#[tactic(auto, unfolding(crate::specs::Headings::finite_heading))]
 pub fn finite_heading(h: Heading) -> bool
     ensures { result ≡ finite_heading h }
 {

@@ -25,6 +25,7 @@ impl MagneticParams {
     };
 
     // The house settings of this half.
+    #[tactic(auto, unfolding(crate::specs::Setup::house))]
     pub fn house() -> MagneticParams
         ensures { result ≡ house binary64 }
     {
@@ -32,6 +33,7 @@ impl MagneticParams {
     }
 }
 
+#[tactic(auto, unfolding(crate::specs::Setup::taus_taken))]
 fn taus_taken(p: MagneticParams, mag_ts: f64) -> bool
     ensures { result ≡ taus_taken binary64 p mag_ts }
 {
@@ -40,6 +42,7 @@ fn taus_taken(p: MagneticParams, mag_ts: f64) -> bool
         & setting::gain_tau_taken(p.mag_ref_tau)
 }
 
+#[tactic(auto, unfolding(crate::specs::Setup::thresholds_taken))]
 fn thresholds_taken(p: MagneticParams) -> bool
     ensures { result ≡ thresholds_taken binary64 p }
 {
@@ -49,6 +52,7 @@ fn thresholds_taken(p: MagneticParams) -> bool
         & setting::rejection_factor_taken(p.mag_rejection_factor)
 }
 
+#[tactic(auto, unfolding(crate::specs::Setup::times_taken))]
 fn times_taken(p: MagneticParams) -> bool
     ensures { result ≡ times_taken binary64 p }
 {
@@ -59,12 +63,14 @@ fn times_taken(p: MagneticParams) -> bool
 }
 
 // Whether the interval and the settings are within their limits.
+#[tactic(auto, unfolding(crate::specs::Setup::taken))]
 pub fn taken(p: MagneticParams, mag_ts: f64) -> bool
     ensures { result ≡ taken binary64 p mag_ts }
 {
     sample::interval_taken(mag_ts) & taus_taken(p, mag_ts) & thresholds_taken(p) & times_taken(p)
 }
 
+#[tactic(auto, unfolding(crate::specs::Setup::smoothing_of))]
 fn smoothing_of(tau: f64, mag_ts: f64) -> Option<Coeffs>
     ensures { result ≡ smoothing_of binary64 tau mag_ts }
 {
@@ -75,25 +81,23 @@ fn smoothing_of(tau: f64, mag_ts: f64) -> Option<Coeffs>
     }
 }
 
+#[tactic(auto, unfolding(crate::specs::Setup::setup))]
 fn setup(p: MagneticParams, mag_ts: f64) -> MagneticCoefficients
     ensures { result ≡ setup binary64 p mag_ts }
 {
-    let k_mag = filters::gain_from_tau(p.tau_mag, mag_ts);
-    let k_mag_ref = filters::gain_from_tau(p.mag_ref_tau, mag_ts);
-    let mag_norm_dip_lp = smoothing_of(p.mag_current_tau, mag_ts);
     MagneticCoefficients {
         mag_ts,
-        k_mag,
-        k_mag_ref,
-        mag_norm_dip_lp,
+        k_mag: filters::gain_from_tau(p.tau_mag, mag_ts),
+        k_mag_ref: filters::gain_from_tau(p.mag_ref_tau, mag_ts),
+        mag_norm_dip_lp: smoothing_of(p.mag_current_tau, mag_ts),
     }
 }
 
 // Nothing is known of the field but its last norm and dip.
+#[tactic(auto, unfolding(crate::specs::Setup::restarted_field))]
 pub fn restarted_field(p: MagneticParams, x: NormDip) -> Field
     ensures { result ≡ restarted_field binary64 p x }
 {
-    let channels = [Channel::FRESH; 2];
     Field {
         mag_dist_detected: true,
         mag_ref_norm: 0.0,
@@ -104,12 +108,13 @@ pub fn restarted_field(p: MagneticParams, x: NormDip) -> Field
         mag_candidate_dip: 0.0,
         mag_candidate_t: 0.0,
         mag_norm_dip: x,
-        mag_norm_dip_lp_state: channels,
+        mag_norm_dip_lp_state: [Channel::FRESH; 2],
     }
 }
 
 impl MagneticState {
     // The state before the first sample.
+    #[tactic(auto, unfolding(crate::specs::Setup::fresh_state))]
     pub fn fresh(p: MagneticParams) -> MagneticState
         ensures { result ≡ fresh_state binary64 p }
     {
@@ -126,15 +131,14 @@ impl MagneticState {
 
 impl Magnetic {
     // The half that settings and an interval within their limits give.
+    #[tactic(auto, unfolding(crate::specs::Setup::new))]
     pub fn new(params: MagneticParams, mag_ts: f64) -> Magnetic
         ensures { result ≡ new binary64 params mag_ts }
     {
-        let coeffs = setup(params, mag_ts);
-        let state = MagneticState::fresh(params);
         Magnetic {
             params,
-            coeffs,
-            state,
+            coeffs: setup(params, mag_ts),
+            state: MagneticState::fresh(params),
         }
     }
 }

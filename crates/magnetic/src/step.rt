@@ -5,72 +5,63 @@ ghost use Rattle.magnetic.specs.Told.{told_of};
 ghost use Rattle.magnetic.specs.Step.{tried_rejecting, tried_plain, tried, mag_step, update_mag};
 
 use crate::field::{field_step, finite_field};
-use crate::heading::{corrected, finite_heading, rejected};
-use crate::types::{Magnetic, MagneticCoefficients, MagneticParams, MagneticState, Seen, Updated};
+use crate::heading::{Rejection, corrected, finite_heading, rejected};
+use crate::types::{Magnetic, MagneticCoefficients, MagneticParams, MagneticState, Seen};
 use algebra::Vector;
-use limits::Answer;
-
-// What a step would store, and whether every number of it is finite.
-#[derive(Clone, Copy)]
-pub struct TriedState {
-    pub finite: bool,
-    pub state: MagneticState,
-}
+use limits::{Answer, Tried, Updated};
 
 // With disturbance rejection on, from the sample in the earth frame.
+#[tactic(auto, unfolding(crate::specs::Step::tried_rejecting))]
 fn tried_rejecting(
     s: MagneticState,
     p: MagneticParams,
     c: MagneticCoefficients,
     mag_earth: Vector,
     gyr_lp: Vector,
-) -> TriedState
+) -> Tried<MagneticState>
     ensures { result ≡ tried_rejecting binary64 s p c mag_earth gyr_lp }
 {
-    let before = s.field;
-    let seen = field_step(before, p, c, mag_earth, gyr_lp);
-    let rejection = rejected(seen, p, c);
-    let field = rejection.field;
-    let h = s.heading;
+    let seen = field_step(s.field, p, c, mag_earth, gyr_lp);
+    let Rejection { k, field } = rejected(seen, p, c);
     let angle = numbers::atan2(mag_earth.0, mag_earth.1);
-    let heading = corrected(h, angle, rejection.k, p.tau_mag, c.mag_ts);
-    let finite = finite_field(field) & finite_heading(heading);
-    let state = MagneticState { heading, field };
-    TriedState { finite, state }
+    let heading = corrected(s.heading, angle, k, p.tau_mag, c.mag_ts);
+    Tried {
+        finite: finite_field(field) & finite_heading(heading),
+        value: MagneticState { heading, field },
+    }
 }
 
 // With disturbance rejection off the field is left as it was.
+#[tactic(auto, unfolding(crate::specs::Step::tried_plain))]
 fn tried_plain(
     s: MagneticState,
     p: MagneticParams,
     c: MagneticCoefficients,
     mag_earth: Vector,
-) -> TriedState
+) -> Tried<MagneticState>
     ensures { result ≡ tried_plain binary64 s p c mag_earth }
 {
-    let field = s.field;
-    let h = s.heading;
     let angle = numbers::atan2(mag_earth.0, mag_earth.1);
-    let heading = corrected(h, angle, c.k_mag, p.tau_mag, c.mag_ts);
-    let finite = finite_heading(heading);
-    let state = MagneticState { heading, field };
-    TriedState { finite, state }
+    let heading = corrected(s.heading, angle, c.k_mag, p.tau_mag, c.mag_ts);
+    Tried {
+        finite: finite_heading(heading),
+        value: MagneticState { heading, ..s },
+    }
 }
 
+#[tactic(auto, unfolding(crate::specs::Step::tried))]
 fn tried(
     s: MagneticState,
     p: MagneticParams,
     c: MagneticCoefficients,
     seen: Seen,
     mag: Vector,
-) -> TriedState
+) -> Tried<MagneticState>
     ensures { result ≡ tried binary64 s p c seen mag }
 {
-    let quat = seen.quat_6d;
-    let mag_earth = quat.rotate(mag);
+    let mag_earth = seen.quat_6d.rotate(mag);
     if seen.mag_dist_rejection_enabled {
-        let gyr_lp = seen.rest_last_gyr_lp;
-        tried_rejecting(s, p, c, mag_earth, gyr_lp)
+        tried_rejecting(s, p, c, mag_earth, seen.rest_last_gyr_lp)
     } else {
         tried_plain(s, p, c, mag_earth)
     }
@@ -78,38 +69,37 @@ fn tried(
 
 impl Magnetic {
     // The step on a sample that is taken and is not all zero.
-    fn mag_step(self, seen: Seen, mag: Vector) -> Updated
+    #[tactic(auto, unfolding(crate::specs::Step::mag_step))]
+    fn mag_step(self, seen: Seen, mag: Vector) -> Updated<Magnetic>
         ensures { told_of result ≡ mag_step binary64 self seen mag }
     {
-        let s = self.state;
-        let p = self.params;
-        let c = self.coeffs;
-        let t = tried(s, p, c, seen, mag);
+        let t = tried(self.state, self.params, self.coeffs, seen, mag);
         if t.finite {
-            let state = t.state;
-            let mut magnetic = self;
-            magnetic.state = state;
             Updated {
                 answer: Answer::Done,
-                magnetic,
+                filter: Magnetic {
+                    state: t.value,
+                    ..self
+                },
             }
         } else {
             Updated {
                 answer: Answer::NotFinite,
-                magnetic: self,
+                filter: self,
             }
         }
     }
 
     // A magnetometer sample, always in the same unit; seen is what this half sees of the other.
-    pub fn update_mag(self, seen: Seen, mag: Vector) -> Updated
+    #[tactic(auto, unfolding(crate::specs::Step::update_mag))]
+    pub fn update_mag(self, seen: Seen, mag: Vector) -> Updated<Magnetic>
         ensures { told_of result ≡ update_mag binary64 self seen mag }
     {
         if limits::sample::mag_taken(mag) {
             if limits::sample::zero_sample(mag) {
                 Updated {
                     answer: Answer::ZeroSample,
-                    magnetic: self,
+                    filter: self,
                 }
             } else {
                 self.mag_step(seen, mag)
@@ -117,7 +107,7 @@ impl Magnetic {
         } else {
             Updated {
                 answer: Answer::BadSample,
-                magnetic: self,
+                filter: self,
             }
         }
     }

@@ -1,6 +1,5 @@
 use algebra::{Quaternion, Vector};
 use filters::{Channel, Coeffs};
-use limits::Answer;
 
 #[derive(Clone, Copy)]
 pub struct MagneticParams {
@@ -71,10 +70,4 @@ pub struct Seen {
     pub quat_6d: Quaternion,
     pub mag_dist_rejection_enabled: bool,
     pub rest_last_gyr_lp: Vector,
-}
-
-#[derive(Clone, Copy)]
-pub struct Updated {
-    pub answer: Answer,
-    pub magnetic: Magnetic,
 }
