@@ -3,6 +3,7 @@ use Rattle.floats.specs.Prelude.{◌≡◌, sym, ap, ◌∙◌, ℕ}
 use Rattle.limits.specs.Answers.{number, Told, told}
 use Rattle.limits.proofs.Answers.{number_tells}
 use Rattle.limits.specs.declared.answer.Answer.{Answer}
+use Rattle.limits.specs.declared.updated.Updated.{Updated as AnyUpdated}
 use Rattle.tilt.specs.Gyr.{ToldGyr, after_gyr}
 use Rattle.tilt.specs.declared.gyr.AfterGyr.{AfterGyr}
 use Rattle.inertial.specs.Told.{told_of as inertial_told}
@@ -10,7 +11,6 @@ use Rattle.inertial.specs.declared.types.Inertial.{Inertial}
 use Rattle.inertial.specs.declared.types.Updated.{Updated as InertialUpdated}
 use Rattle.magnetic.specs.Told.{told_of as magnetic_told}
 use Rattle.magnetic.specs.declared.types.Magnetic.{Magnetic}
-use Rattle.magnetic.specs.declared.types.Updated.{Updated as MagneticUpdated}
 use Rattle.vqf.specs.Told.{told_of, ToldAll, all_told}
 use Rattle.vqf.specs.declared.types.VQF.{VQF}
 use Rattle.vqf.specs.declared.types.Updated.{Updated}
@@ -29,10 +29,10 @@ inertial_call {d} {r} {s} p q =
     let e : inertial_told r ≡ inertial_told s = p ∙ sym q in
     λ i. record { answer = number_tells r.answer s.answer (λ j. (e j).number) i; inertial = (e i).left }
 
-pub magnetic_call : {d : Told Magnetic} {r s : MagneticUpdated} → magnetic_told r ≡ d → magnetic_told s ≡ d → r ≡ s
+pub magnetic_call : {d : Told Magnetic} {r s : AnyUpdated Magnetic} → magnetic_told r ≡ d → magnetic_told s ≡ d → r ≡ s
 magnetic_call {d} {r} {s} p q =
     let e : magnetic_told r ≡ magnetic_told s = p ∙ sym q in
-    λ i. record { answer = number_tells r.answer s.answer (λ j. (e j).number) i; magnetic = (e i).left }
+    λ i. record { answer = number_tells r.answer s.answer (λ j. (e j).number) i; filter = (e i).left }
 
 pub call : {d : Told VQF} {r s : Updated} → told_of r ≡ d → told_of s ≡ d → r ≡ s
 call {d} {r} {s} p q =

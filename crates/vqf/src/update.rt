@@ -10,7 +10,7 @@ use crate::types::{Sample, Updated, UpdatedAll, VQF};
 use algebra::Vector;
 use inertial::Inertial;
 use limits::Answer;
-use magnetic::Seen;
+use magnetic::{Magnetic, Seen};
 
 fn seen(f: Inertial) -> Seen
     ensures { result ≡ seen binary64 f }
@@ -37,12 +37,13 @@ impl VQF {
     }
 
     // What a call on the magnetic half leaves of the filter.
-    pub fn magnetically(self, u: magnetic::Updated) -> Updated
+    pub fn magnetically(self, u: limits::Updated<Magnetic>) -> Updated
         ensures { told_of result ≡ magnetically self (magnetic_told u) }
     {
-        let magnetic = u.magnetic;
-        let mut filter = self;
-        filter.magnetic = magnetic;
+        let filter = VQF {
+            magnetic: u.filter,
+            ..self
+        };
         let answer = u.answer;
         Updated { answer, filter }
     }
