@@ -3,3 +3,4 @@ pub mod Lines
 pub mod Requests
 pub mod Readers
 pub mod Plays
+pub mod Printed

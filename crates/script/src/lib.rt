@@ -4,6 +4,7 @@
 pub mod line;
 mod names;
 pub mod play;
+mod printed;
 pub mod reader;
 pub mod request;
 
