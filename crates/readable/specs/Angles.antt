@@ -1,5 +1,5 @@
 -- Angles as a person reads them, over the format w.
-use Rattle.std.specs.Prelude.{Bool, cond, from_bits, Float}
+use Rattle.std.specs.Prelude.{Bool, cond, ◌&&◌, Option, Some, None, from_bits, Float}
 use Rattle.std.specs.Float.{Format, binary64}
 use Rattle.std.specs.Float.Ieee.{lt, neg, to_unsigned}
 use Rattle.floats.specs.Notation.{rounded, zero, half, one, pi}
@@ -10,16 +10,15 @@ use Rattle.algebra.specs.Vectors.{vector}
 use Rattle.algebra.specs.Quaternions.{rotate}
 use Rattle.algebra.specs.declared.quaternion.Quaternion.{Quaternion}
 use Rattle.readable.specs.declared.Tenths.{Tenths}
-use Rattle.readable.specs.declared.Tenths.TheVariants.{None, Above, Below}
 
 -- 2 ^ 64
 abbrev beyond : Float
 beyond = from_bits binary64 0x43f0_0000_0000_0000
 
 -- the whole part of y, with a sign, where 64 bits hold it
-unfoldable pub signed : Bool → Float → Tenths
+unfoldable pub signed : Bool → Float → Option Tenths
 signed is_below y =
-    cond (lt (neg (one binary64)) y) (cond (lt y beyond) (cond is_below (Below (to_unsigned 64 y)) (Above (to_unsigned 64 y))) None) None
+    cond (lt (neg (one binary64)) y && lt y beyond) (Some (record { below = is_below; tenths = to_unsigned 64 y })) None
 
 module _ (w : Format) where
   open rounded w use {◌⊕◌, ◌⊗◌, ◌⊘◌}
@@ -36,5 +35,5 @@ module _ (w : Format) where
   heading q = let ahead = rotate w q (vector (one w) (zero w) (zero w)) in degrees (atan2 w ahead.1 ahead.0)
 
   -- to the nearest tenth, but for what two roundings move; a half goes away from zero
-  unfoldable pub to_tenths : Float → Tenths
+  unfoldable pub to_tenths : Float → Option Tenths
   to_tenths x = signed (lt x (zero w)) (magnitude x ⊗ ten w ⊕ half w)

@@ -8,14 +8,14 @@ ghost use Rattle.readable.specs.Angles.{degrees, tilt, heading, signed, to_tenth
 use algebra::{Quaternion, Vector};
 use floats::PI;
 
-// Whole tenths, and whether the number is below zero; or that it has no such number.
+// Whole tenths, and whether the number is below zero.
 #[derive(Clone, Copy)]
-pub enum Tenths {
-    None,
-    Above(u64),
-    Below(u64),
+pub struct Tenths {
+    pub below: bool,
+    pub tenths: u64,
 }
 
+#[tactic(auto, unfolding(crate::specs::Angles::degrees))]
 fn degrees(radians: f64) -> f64
     ensures { result ≡ degrees binary64 radians }
 {
@@ -23,6 +23,7 @@ fn degrees(radians: f64) -> f64
 }
 
 // How far the third axis is from straight up, from 0 to 180 degrees: below 90 it points up.
+#[tactic(auto, unfolding(crate::specs::Angles::tilt))]
 pub fn tilt(q: Quaternion) -> f64
     ensures { result ≡ tilt binary64 q }
 {
@@ -32,6 +33,7 @@ pub fn tilt(q: Quaternion) -> f64
 
 // Where the first axis points, seen from above: counter-clockwise from the reference's first axis,
 // from -180 to 180 degrees.
+#[tactic(auto, unfolding(crate::specs::Angles::heading))]
 pub fn heading(q: Quaternion) -> f64
     ensures { result ≡ heading binary64 q }
 {
@@ -39,28 +41,22 @@ pub fn heading(q: Quaternion) -> f64
     degrees(numbers::atan2(ahead.1, ahead.0))
 }
 
-// The whole part of y, with a sign.
-fn signed(is_below: bool, y: f64) -> Tenths
-    ensures { result ≡ signed is_below y }
+// The whole part of y, with a sign, where 64 bits hold it.
+#[tactic(auto, unfolding(crate::specs::Angles::signed))]
+fn signed(below: bool, y: f64) -> Option<Tenths>
+    ensures { result ≡ signed below y }
 {
-    if y > -1.0 {
-        if y < 18446744073709551616.0 {
-            let n = std::num::truncating_f64_to_u64(y);
-            if is_below {
-                Tenths::Below(n)
-            } else {
-                Tenths::Above(n)
-            }
-        } else {
-            Tenths::None
-        }
+    if y > -1.0 && y < 18446744073709551616.0 {
+        let tenths = std::num::truncating_f64_to_u64(y);
+        Some(Tenths { below, tenths })
     } else {
-        Tenths::None
+        None
     }
 }
 
 // To the nearest tenth, but for what two roundings move; a half goes away from zero.
-pub fn to_tenths(x: f64) -> Tenths
+#[tactic(auto, unfolding(crate::specs::Angles::to_tenths))]
+pub fn to_tenths(x: f64) -> Option<Tenths>
     ensures { result ≡ to_tenths binary64 x }
 {
     signed(x < 0.0, floats::magnitude(x) * 10.0 + 0.5)

@@ -93,16 +93,11 @@ fn say_tenths(stdout: Stdout, n: u64, sign: &[u8]) -> io::Result<()> {
 }
 
 fn say_angle(stdout: Stdout, x: f64) -> io::Result<()> {
-    let tenths = readable::to_tenths(x);
-    match tenths {
-        Tenths::None => say(stdout, b"       -"),
-        Tenths::Above(n) => say_tenths(stdout, n, b" "),
-        Tenths::Below(n) => {
-            if n == 0 {
-                say_tenths(stdout, n, b" ")
-            } else {
-                say_tenths(stdout, n, b"-")
-            }
+    match readable::to_tenths(x) {
+        None => say(stdout, b"       -"),
+        Some(Tenths { below, tenths }) => {
+            let sign = if below && tenths > 0 { b"-" } else { b" " };
+            say_tenths(stdout, tenths, sign)
         }
     }
 }
