@@ -1,5 +1,5 @@
 -- Matrices of three rows and three columns, over the format w.
-use Rattle.std.specs.Prelude.{◌≡◌, refl, Bool, ◌&&◌, cond, List, [], ◌∷◌, ℕ, get_or, Float}
+use Rattle.std.specs.Prelude.{◌≡◌, refl, Bool, ◌&&◌, cond, List, [], ◌∷◌, ℕ, get_or, Float, Result, Ok, Err}
 use Rattle.std.specs.Float.{nan, Format, binary64}
 use Rattle.std.specs.Float.Ieee.{neg, le}
 use Rattle.std.specs.Float.Ieee.Scale as scale
@@ -8,8 +8,8 @@ use Rattle.algebra.specs.Vectors.{epsilon, vector}
 use Rattle.algebra.specs.Vectors as vectors
 use Rattle.algebra.specs.declared.vector.Vector.{Vector}
 use Rattle.algebra.specs.declared.matrix.Matrix.{Matrix}
-use Rattle.algebra.specs.declared.matrix.Inverse.{Inverse}
-use Rattle.algebra.specs.declared.matrix.Inverse.TheVariants.{TooSmall, NotFinite, Inverted}
+use Rattle.algebra.specs.declared.matrix.NoInverse.{NoInverse}
+use Rattle.algebra.specs.declared.matrix.NoInverse.TheVariants.{TooSmall, NotFinite}
 
 abbrev pub row0 : Matrix → Vector
 row0 m = vector m.m00 m.m01 m.m02
@@ -113,8 +113,8 @@ abbrev pub too_small : Float → Bool
 too_small det = le (neg (epsilon binary64)) det && le det (epsilon binary64)
 
 -- the source divides by a determinant that is not finite, too
-unfoldable pub invert : Format → Matrix → Inverse
+unfoldable pub invert : Format → Matrix → Result Matrix NoInverse
 invert w m =
     let cofactors = adjugate m in
     let det = determinant m cofactors in
-    cond (too_small det) TooSmall (cond (scale.finite det) (Inverted (divided w cofactors det)) NotFinite)
+    cond (too_small det) (Err TooSmall) (cond (scale.finite det) (Ok (divided w cofactors det)) (Err NotFinite))

@@ -1,3 +1,3 @@
 -- The types of the code, by their names.
-pub use Rattle.algebra.specs.declared.matrix.Inverse.{Inverse}
+pub use Rattle.algebra.specs.declared.matrix.NoInverse.{NoInverse}
 pub use Rattle.algebra.specs.declared.matrix.Matrix.{Matrix}

@@ -18,13 +18,13 @@ pub struct Matrix {
     pub m22: f64,
 }
 
+// Why a matrix has no inverse.
 #[derive(Clone, Copy)]
-pub enum Inverse {
+pub enum NoInverse {
     // The determinant lies within EPSILON of 0.
     TooSmall,
     // The determinant is a NaN or infinite.
     NotFinite,
-    Inverted(Matrix),
 }
 
 // A sum in a product starts at 0.0 and runs over k.
@@ -159,18 +159,17 @@ impl Matrix {
     }
 
     // The inverse, or why there is none.
-    pub fn invert(self) -> Inverse
+    pub fn invert(self) -> Result<Matrix, NoInverse>
         ensures { result ≡ invert binary64 self }
     {
         let cofactors = self.adjugate();
         let det = self.determinant(cofactors);
         if (-EPSILON <= det) & (det <= EPSILON) {
-            Inverse::TooSmall
+            Err(NoInverse::TooSmall)
         } else if floats::finite(det) {
-            let m = cofactors.divided(det);
-            Inverse::Inverted(m)
+            Ok(cofactors.divided(det))
         } else {
-            Inverse::NotFinite
+            Err(NoInverse::NotFinite)
         }
     }
 

@@ -1,5 +1,5 @@
 -- Each call asks its questions in the table's order, and its own tests say what the table asks (`gyr_tested`, `acc_tested`, `tau_acc_tested`).
-use Rattle.floats.specs.Prelude.{◌≡◌, refl, ap, ap₂, ◌∙◌, Bool, true, false, not, cond, ◌&&◌, ◌||◌, ℕ, T, Float, Format, eq, le}
+use Rattle.floats.specs.Prelude.{◌≡◌, refl, ap, ap₂, ◌∙◌, Bool, true, false, not, cond, ◌&&◌, ◌||◌, ℕ, T, Float, Result, Ok, Err, Format, eq, le}
 use lib.Ieee.Scale as scale
 use Rattle.floats.specs.Notation.{zero}
 use Rattle.floats.specs.Tests.{is_true}
@@ -7,7 +7,8 @@ use Rattle.algebra.specs.Quaternions as quaternions
 use Rattle.algebra.specs.Matrices.{adjugate, determinant, divided, too_small, invert}
 use Rattle.algebra.specs.declared.vector.Vector.{Vector}
 use Rattle.algebra.specs.declared.matrix.Matrix.{Matrix}
-use Rattle.algebra.specs.declared.matrix.Inverse.TheVariants as inverse
+use Rattle.algebra.specs.declared.matrix.NoInverse.{NoInverse}
+use Rattle.algebra.specs.declared.matrix.NoInverse.TheVariants.{TooSmall, NotFinite}
 use Rattle.limits.specs.Answers.{told, Kept}
 use Rattle.limits.specs.Table.{first}
 use Rattle.limits.specs.Limits.{gyr_taken, acc_taken, interval_taken, zero_sample, tau_taken, threshold_taken}
@@ -17,15 +18,14 @@ use Rattle.tilt.specs.Scalars.{radians}
 use Rattle.inertial.specs.Told.{if_finite}
 use Rattle.inertial.specs.Gyr.{update_gyr_with_ts}
 use Rattle.inertial.specs.Kalman.{updated_bias, rotation, smoothed, widened, innovation, by_inverse, estimated, bias_step}
-use Rattle.inertial.specs.Acc.{singular, acc_settled, acc_step, update_acc}
+use Rattle.inertial.specs.Acc.{singular, update_acc}
 use Rattle.inertial.specs.Setters as setters
 use Rattle.inertial.specs.Setters.{with_params, with_rest_params, with_thresholds, with_bias, with_estimate}
 use Rattle.inertial.specs.AllFinite.{all_finite}
 use Rattle.inertial.specs.Calls as calls
-use Rattle.inertial.specs.Answers.{gyr_rest_of, quat_of, after_gyr, acc_rest_of, inclination_of, bias_of, after_acc, at_tau_acc, after_tau_acc, measurement, to_invert, no_inverse, tau_acc_faults, faults, Answers}
-use Rattle.inertial.specs.Types.{Bias, Inertial, Smooth, Measurement, TriedBias, Sigma}
-use Rattle.inertial.specs.declared.kalman.KalmanStep.TheVariants.{Next}
-use Rattle.inertial.proofs.Steps.{gyr_fine, gyr_asked}
+use Rattle.inertial.specs.Answers.{gyr_rest_of, quat_of, after_gyr, acc_rest_of, inclination_of, bias_tried, bias_of, after_acc, at_tau_acc, after_tau_acc, measurement, to_invert, no_inverse, tau_acc_faults, faults, Answers}
+use Rattle.inertial.specs.Types.{Inertial, Smooth, Measurement, TriedBias, Sigma}
+use Rattle.inertial.proofs.Steps.{gyr_fine, acc_fine, gyr_asked, acc_asked}
 use Rattle.inertial.proofs.Tested.{gyr_tested, acc_tested, fits, tau_acc_tested}
 
 module _ (w : Format) where
@@ -42,11 +42,11 @@ module _ (w : Format) where
   abbrev unfit : Float → Bool
   unfit det = too_small det || not (scale.finite det)
 
-  estimated_singular : (b : Bias) (s : Smooth) (bias : Vector) (p : Matrix) (m : Measurement) (c : Float)
+  estimated_singular : (s : Smooth) (bias : Vector) (p : Matrix) (m : Measurement) (c : Float)
       → let x = innovation w p m.r m.w in
-      singular (updated_bias b s (estimated w bias p m c)) ≡ (le (zero w) m.w.0 && unfit (determinant x (adjugate x)))
+      singular (updated_bias s (estimated w bias p m c)) ≡ (le (zero w) m.w.0 && unfit (determinant x (adjugate x)))
   unfolding updated_bias estimated invert
-  estimated_singular b s bias p m c = go (le (zero w) m.w.0) (too_small det) (scale.finite det)
+  estimated_singular s bias p m c = go (le (zero w) m.w.0) (too_small det) (scale.finite det)
     where
       x : Matrix
       x = innovation w p m.r m.w
@@ -56,19 +56,19 @@ module _ (w : Format) where
 
       go : (measured small finite : Bool)
           → singular
-          (updated_bias b s
-          (cond measured (by_inverse w bias p m c (cond small inverse.TooSmall (cond finite (inverse.Inverted (divided w (adjugate x) det)) inverse.NotFinite))) (Next (record { bias = bias; bias_p = p }))))
+          (updated_bias s
+          (cond measured (by_inverse w bias p m c (cond small (Err TooSmall) (cond finite (Ok (divided w (adjugate x) det)) (Err NotFinite)))) (Ok (record { bias = bias; bias_p = p }))))
           ≡ (measured && (small || not finite))
       go true true finite = refl
       go true false true = refl
       go true false false = refl
       go false small finite = refl
 
-  only_on : (on measured none : Bool) (t u : TriedBias) → singular t ≡ (measured && none) → singular u ≡ false → singular (cond on t u) ≡ (on && measured && none)
+  only_on : (on measured none : Bool) (t u : Result TriedBias NoInverse) → singular t ≡ (measured && none) → singular u ≡ false → singular (cond on t u) ≡ (on && measured && none)
   only_on true measured none t u e z = e
   only_on false measured none t u e z = z
 
-  acc_singular : (f : Inertial) (v : Vector) → singular (bias_of w f v) ≡ no_inverse w f v
+  acc_singular : (f : Inertial) (v : Vector) → singular (bias_tried w f v) ≡ no_inverse w f v
   unfolding bias_step no_inverse
   acc_singular f v =
       let i = inclination_of w f v in
@@ -79,22 +79,22 @@ module _ (w : Format) where
       let m = measurement w f v in
       let x = to_invert w f v in
       only_on (f.params.bias.motion_bias_est_enabled || f.params.rest.rest_bias_est_enabled) (le (zero w) m.w.0) (unfit (determinant x (adjugate x)))
-      (updated_bias f.state.bias s (estimated w f.state.bias.bias p m c)) (record { det_too_small = false; det_not_finite = false; finite = true; bias = f.state.bias })
-      (estimated_singular f.state.bias s f.state.bias.bias p m c) refl
+      (updated_bias s (estimated w f.state.bias.bias p m c)) (Ok (record { finite = true; bias = f.state.bias }))
+      (estimated_singular s f.state.bias.bias p m c) refl
 
   abbrev acc_number : Vector → Bool → Bool → ℕ
   acc_number v none finite = cond (not (acc_taken w v)) 2 (cond (zero_sample w v) 1 (cond none 5 (cond (not finite) 6 0)))
 
   acc_says : (f : Inertial) (v : Vector)
       → let tests = (acc_rest_of w f v).finite && (inclination_of w f v).finite && (bias_of w f v).finite in
-      Says (acc_number v (singular (bias_of w f v)) tests) (after_acc w f v) f (update_acc w f v)
-  unfolding update_acc acc_step acc_settled
+      Says (acc_number v (singular (bias_tried w f v)) tests) (after_acc w f v) f (update_acc w f v)
   acc_says f v =
-      only_if (acc_taken w v)
+      rw (acc_asked w f v)
+      (only_if (acc_taken w v)
       (if (zero_sample w v) refused
-      (if (singular (bias_of w f v)) refused
-      (only_if ((acc_rest_of w f v).finite && (inclination_of w f v).finite && (bias_of w f v).finite) done refused)))
-      refused
+      (if (singular (bias_tried w f v)) refused
+      (only_if (acc_fine w f v) done refused)))
+      refused)
 
   -- ---- the setters
   -- the value that it has changes nothing

@@ -1,5 +1,5 @@
 -- Each call keeps the bias within the clip: a step clips it last and stores it where it is finite, and the setter takes nothing beyond. No call changes the clip.
-use Rattle.floats.specs.Prelude.{Bool, true, false, not, cond, ◌||◌, Bool_beq, T, Float, Format, neg, lt, le}
+use Rattle.floats.specs.Prelude.{Bool, true, false, not, cond, ◌||◌, Bool_beq, T, Float, Result, Ok, Err, Format, neg, lt, le}
 use lib.Ieee.Scale as scale
 use Rattle.floats.specs.Notation.{zero}
 use Rattle.floats.specs.Tests.{both, keeps}
@@ -11,17 +11,16 @@ use Rattle.algebra.specs.Quaternions.{times}
 use Rattle.algebra.specs.Matrices.{invert}
 use Rattle.algebra.specs.declared.vector.Vector.{Vector}
 use Rattle.algebra.specs.declared.matrix.Matrix.{Matrix}
-use Rattle.algebra.specs.declared.matrix.Inverse.{Inverse}
-use Rattle.algebra.specs.declared.matrix.Inverse.TheVariants as inverse
+use Rattle.algebra.specs.declared.matrix.NoInverse.{NoInverse}
 use Rattle.limits.specs.Limits.{all_within, threshold_taken}
 use Rattle.tilt.specs.Scalars.{radians}
+use Rattle.inertial.specs.Acc.{left}
 use Rattle.inertial.specs.Kalman.{finite_bias, updated_bias, rotation, smoothed, measured, widened, innovation, by_inverse, estimated, bias_step}
 use Rattle.inertial.specs.Setup.{taken, fresh_state, new}
 use Rattle.inertial.specs.Setters as setters
 use Rattle.inertial.specs.HowFar.{AllWithin}
 use Rattle.inertial.specs.Answers.{acc_rest_of, inclination_of, bias_of}
-use Rattle.inertial.specs.Types.{Bias, Inertial, InertialParams, Measurement, Smooth, KalmanStep, TriedBias}
-use Rattle.inertial.specs.declared.kalman.KalmanStep.TheVariants.{TooSmall, NotFinite, Next}
+use Rattle.inertial.specs.Types.{Bias, Inertial, InertialParams, Measurement, Smooth, Estimate, TriedBias}
 use Rattle.inertial.proofs.Construction.{opened}
 use Rattle.inertial.proofs.BiasLimit.{limit_within}
 use Rattle.inertial.proofs.Invariants.{Invariant}
@@ -60,25 +59,23 @@ module _ (c : Float) (h : T (le nought c)) where
 module _ (w : Format) where
   -- ---- the estimate, clipped to ±c
   module _ (c : Float) (h : T (le nought c)) where
-    abbrev Clipped : KalmanStep → Type 0
-    Clipped TooSmall = Unit {0}
-    Clipped NotFinite = Unit {0}
-    Clipped (Next n) = T (finite n.bias) → T (all_within c n.bias)
+    abbrev Clipped : Result Estimate NoInverse → Type 0
+    Clipped (Err e) = Unit {0}
+    Clipped (Ok n) = T (finite n.bias) → T (all_within c n.bias)
 
-    by_inverse_clipped : (bias : Vector) (p : Matrix) (m : Measurement) (i : Inverse) → Clipped (by_inverse w bias p m c i)
-    by_inverse_clipped bias p m inverse.TooSmall = tt
-    by_inverse_clipped bias p m inverse.NotFinite = tt
-    by_inverse_clipped bias p m (inverse.Inverted i) = clip_within c h _
+    by_inverse_clipped : (bias : Vector) (p : Matrix) (m : Measurement) (i : Result Matrix NoInverse) → Clipped (by_inverse w bias p m c i)
+    by_inverse_clipped bias p m (Err e) = tt
+    by_inverse_clipped bias p m (Ok i) = clip_within c h _
 
     estimated_clipped : (bias : Vector) (p : Matrix) (m : Measurement) → T (all_within c bias) → Clipped (estimated w bias p m c)
     unfolding estimated
     estimated_clipped bias p m k = keeps Clipped (le (zero w) m.w.0) _ _ (λ _. by_inverse_clipped bias p m (invert w (innovation w p m.r m.w))) (λ _. k)
 
-    updated_clipped : (b : Bias) (s : Smooth) (k : KalmanStep) → T (all_within c b.bias) → Clipped k → T (updated_bias b s k).finite → T (all_within c (updated_bias b s k).bias.bias)
+    updated_clipped : (b : Bias) (s : Smooth) (k : Result Estimate NoInverse) → T (all_within c b.bias) → Clipped k
+        → let t = left b (updated_bias s k) in T t.finite → T (all_within c t.bias.bias)
     unfolding updated_bias finite_bias
-    updated_clipped b s TooSmall k u t = k
-    updated_clipped b s NotFinite k u t = k
-    updated_clipped b s (Next n) k u t = u (simp both at t).0.0.0
+    updated_clipped b s (Err e) k u t = k
+    updated_clipped b s (Ok n) k u t = u (simp both at t).0.0.0
 
   -- ---- the calls
   abbrev pub Held : Inertial → Type 0
@@ -106,7 +103,7 @@ module _ (w : Format) where
         let b = f.state.bias in
         let s = smoothed w b (rotation w (times w i.inclination.acc_quat i.inclination.gyr_quat)) f.params.tau_acc f.coeffs.acc_ts f.coeffs.acc_lp in
         let m = measured w s f.params f.coeffs (acc_rest_of w f acc).rest i.acc_earth b.bias in
-        keeps (λ (t : TriedBias). T t.finite → T (all_within clip t.bias.bias)) (f.params.bias.motion_bias_est_enabled || f.params.rest.rest_bias_est_enabled) _ _
+        keeps (λ (t : Result TriedBias NoInverse). T (left b t).finite → T (all_within clip (left b t).bias.bias)) (f.params.bias.motion_bias_est_enabled || f.params.rest.rest_bias_est_enabled) _ _
         (λ _. updated_clipped clip from b s _ h.1 (estimated_clipped clip from b.bias (widened w b.bias_p f.coeffs.bias) m h.1))
         (λ _. h.1)
 

@@ -1,21 +1,22 @@
 -- No time and no count of the inertial half is below 0: rest and inclination as in `tilt`, and the filters of the bias count from 0.
-use Rattle.floats.specs.Prelude.{◌||◌, Bool_beq, List, T, Float, Format, binary32, binary64, of_bits, le}
+use Rattle.floats.specs.Prelude.{◌||◌, Bool_beq, List, T, Float, Result, Ok, Err, Format, binary32, binary64, of_bits, le}
 use Rattle.floats.specs.Notation.{zero}
 use Rattle.floats.specs.Tests.{keeps}
 use Rattle.floats.specs.Order.{le_tr}
+use Rattle.algebra.specs.declared.matrix.NoInverse.{NoInverse}
 use Rattle.algebra.specs.declared.vector.Vector.{Vector}
 use Rattle.filters.specs.Banks.{filter_vec2, filter_vec9, adapt2, adapt9}
 use Rattle.filters.specs.Counts.{all_from_zero}
 use Rattle.filters.proofs.Counts.{channels_from_zero, adapted_from_zero, fresh_from_zero}
 use Rattle.limits.specs.Limits.{shortest_interval}
 use Rattle.tilt.proofs.CountsHeld.{InclinationHeld, RestHeld, rest_fresh, inclination_fresh, gyr_rest_held, acc_rest_held, inclined_held, adapted_inclination_held}
+use Rattle.inertial.specs.Acc.{left}
 use Rattle.inertial.specs.Kalman.{updated_bias, smoothed, bias_step}
 use Rattle.inertial.specs.Setup.{taken, fresh_state, setup, new}
 use Rattle.inertial.specs.Setters as setters
 use Rattle.inertial.specs.Calls.{Call, run}
 use Rattle.inertial.specs.Answers.{bias_of}
-use Rattle.inertial.specs.Types.{Bias, Inertial, InertialParams, KalmanStep, Smooth, TriedBias}
-use Rattle.inertial.specs.declared.kalman.KalmanStep.TheVariants.{TooSmall, NotFinite, Next}
+use Rattle.inertial.specs.Types.{Bias, Inertial, InertialParams, Estimate, Smooth, TriedBias}
 use Rattle.inertial.proofs.Construction.{opened}
 use Rattle.inertial.proofs.Invariants.{Invariant, reached}
 
@@ -27,11 +28,10 @@ least binary64 = tt
 abbrev BiasHeld : Bias → Type 0
 BiasHeld b = T (all_from_zero 9 b.motion_bias_est_rlp_state) × T (all_from_zero 2 b.motion_bias_est_bias_lp_state)
 
-updated_held : (b : Bias) (s : Smooth) (k : KalmanStep) → T (all_from_zero 9 s.rlp_state) × T (all_from_zero 2 s.bias_lp_state) → BiasHeld b → BiasHeld (updated_bias b s k).bias
+updated_held : (b : Bias) (s : Smooth) (k : Result Estimate NoInverse) → T (all_from_zero 9 s.rlp_state) × T (all_from_zero 2 s.bias_lp_state) → BiasHeld b → BiasHeld (left b (updated_bias s k)).bias
 unfolding updated_bias
-updated_held b s TooSmall k h = h
-updated_held b s NotFinite k h = h
-updated_held b s (Next n) k h = k
+updated_held b s (Err e) k h = h
+updated_held b s (Ok n) k h = k
 
 module _ (w : Format) where
   abbrev pub CountsHeld : Inertial → Type 0
@@ -51,7 +51,7 @@ module _ (w : Format) where
         let tau = f.params.tau_acc in
         let ts = f.coeffs.acc_ts in
         let k = f.coeffs.acc_lp in
-        keeps (λ (t : TriedBias). BiasHeld t.bias) (f.params.bias.motion_bias_est_enabled || f.params.rest.rest_bias_est_enabled) _ _
+        keeps (λ (t : Result TriedBias NoInverse). BiasHeld (left b t).bias) (f.params.bias.motion_bias_est_enabled || f.params.rest.rest_bias_est_enabled) _ _
         (λ _. updated_held b _ _ (channels_from_zero w 9 _ tau ts k b.motion_bias_est_rlp_state h.2.0, channels_from_zero w 2 _ tau ts k b.motion_bias_est_bias_lp_state h.2.1) h.2)
         h.2
 

@@ -1,10 +1,11 @@
 -- A gyro and an accelerometer step, and a change of `tau_acc`, test exactly the numbers that they store; all else is kept. So, on a filter that holds
 -- finite numbers, the tests say whether what the call would leave is finite.
-use Rattle.floats.specs.Prelude.{◌≡◌, Bool, true, false, ◌&&◌, ◌||◌, T, Float, Format, of_bits}
+use Rattle.floats.specs.Prelude.{◌≡◌, Bool, true, ◌&&◌, ◌||◌, T, Float, Result, Ok, Err, Format, of_bits}
 use lib.Ieee.Scale as scale
 use Rattle.floats.specs.Tests.{both, alike, keeps}
 use Rattle.floats.specs.Order.{within_finite, each_finite}
 use Rattle.algebra.specs.Quaternions as quaternions
+use Rattle.algebra.specs.declared.matrix.NoInverse.{NoInverse}
 use Rattle.algebra.specs.declared.vector.Vector.{Vector}
 use Rattle.filters.specs.Coefficients.{finite_coeffs}
 use Rattle.filters.specs.Banks.{finite_channels}
@@ -17,11 +18,11 @@ use Rattle.inertial.specs.Setters.{with_tau_acc, with_acc_lp, adapted_bias}
 use Rattle.tilt.specs.Setters.{adapted_inclination}
 use Rattle.tilt.specs.Scalars.{radians}
 use Rattle.tilt.specs.Acc.{finite_inclination, acc_lowpassed, inclined}
+use Rattle.inertial.specs.Acc.{left}
 use Rattle.inertial.specs.Kalman.{finite_bias, updated_bias, rotation, smoothed, measured, widened, estimated, bias_step}
-use Rattle.inertial.specs.Types.{Bias, Inertial, InertialCoefficients, InertialParams, Smooth, KalmanStep, TriedBias}
+use Rattle.inertial.specs.Types.{Bias, Inertial, InertialCoefficients, InertialParams, Smooth, Estimate, TriedBias}
 use Rattle.tilt.specs.declared.types.Inclination.{Inclination}
 use Rattle.tilt.specs.declared.types.Rest.{Rest}
-use Rattle.inertial.specs.declared.kalman.KalmanStep.TheVariants.{TooSmall, NotFinite, Next}
 use Rattle.inertial.proofs.Parts.{parts, whole, state_parts, whole_state, bias_parts, whole_bias, put_state}
 
 module _ (w : Format) where
@@ -29,20 +30,19 @@ module _ (w : Format) where
   abbrev BiasTested : TriedBias → Type 0
   BiasTested t = (T t.finite → T (finite_bias t.bias)) × (T (finite_bias t.bias) → T t.finite)
 
-  updated_bias_tested : (b : Bias) (s : Smooth) (k : KalmanStep) → T (finite_bias b) → BiasTested (updated_bias b s k)
+  updated_bias_tested : (b : Bias) (s : Smooth) (k : Result Estimate NoInverse) → T (finite_bias b) → BiasTested (left b (updated_bias s k))
   unfolding updated_bias
-  updated_bias_tested b s TooSmall h = (λ _. h, λ _. tt)
-  updated_bias_tested b s NotFinite h = (λ _. h, λ _. tt)
-  updated_bias_tested b s (Next n) h = (λ g. g, λ g. g)
+  updated_bias_tested b s (Err e) h = (λ _. h, λ _. tt)
+  updated_bias_tested b s (Ok n) h = (λ g. g, λ g. g)
 
-  bias_step_tested : (b : Bias) (p : InertialParams) (k : InertialCoefficients) (i : Inclination) (r : Rest) (a : Vector) → T (finite_bias b) → BiasTested (bias_step w b p k i r a)
+  bias_step_tested : (b : Bias) (p : InertialParams) (k : InertialCoefficients) (i : Inclination) (r : Rest) (a : Vector) → T (finite_bias b) → BiasTested (left b (bias_step w b p k i r a))
   unfolding bias_step
   bias_step_tested b p k i r a h =
       let m = rotation w (quaternions.times w i.acc_quat i.gyr_quat) in
       let s = smoothed w b m p.tau_acc k.acc_ts k.acc_lp in
       let e = estimated w b.bias (widened w b.bias_p k.bias) (measured w s p k r a b.bias) (radians w p.rest.bias_clip) in
-      keeps BiasTested (p.bias.motion_bias_est_enabled || p.rest.rest_bias_est_enabled)
-      (updated_bias b s e) (record { det_too_small = false; det_not_finite = false; finite = true; bias = b }) (λ _. updated_bias_tested b s e h) (λ _. h, λ _. tt)
+      keeps (λ (t : Result TriedBias NoInverse). BiasTested (left b t)) (p.bias.motion_bias_est_enabled || p.rest.rest_bias_est_enabled)
+      (updated_bias s e) (Ok (record { finite = true; bias = b })) (λ _. updated_bias_tested b s e h) (λ _. h, λ _. tt)
 
   -- ---- the steps
   pub gyr_tested : (f : Inertial) (gyr : Vector) (ts : Float) → T (all_finite f)

@@ -1,7 +1,9 @@
 -- The accelerometer step, over the format w: rest and inclination as in `tilt`, and the bias.
-use Rattle.std.specs.Prelude.{Bool, cond, ◌&&◌, ◌||◌}
+use Rattle.std.specs.Prelude.{Bool, true, cond, ◌&&◌, Result, Ok, Err, is_err}
+use Rattle.std.specs.Result.{result_unwrap_or}
 use Rattle.std.specs.Float.{Format}
 use Rattle.algebra.specs.declared.vector.Vector.{Vector}
+use Rattle.algebra.specs.declared.matrix.NoInverse.{NoInverse}
 use Rattle.limits.specs.Answers.{Told, told}
 use Rattle.limits.specs.Limits.{acc_taken, zero_sample}
 use Rattle.tilt.specs.Acc.{acc_rest, inclined}
@@ -9,18 +11,22 @@ use Rattle.tilt.specs.declared.rest.TriedRest.{TriedRest}
 use Rattle.tilt.specs.declared.acc.TriedInclination.{TriedInclination}
 use Rattle.inertial.specs.Told.{state_of, with_state, if_finite}
 use Rattle.inertial.specs.Kalman.{bias_step}
+use Rattle.inertial.specs.declared.types.Bias.{Bias}
 use Rattle.inertial.specs.declared.types.Inertial.{Inertial}
 use Rattle.inertial.specs.declared.kalman.TriedBias.{TriedBias}
 
 -- no inverse, for either reason
-abbrev pub singular : TriedBias → Bool
-singular b = b.det_too_small || b.det_not_finite
+abbrev pub singular : Result TriedBias NoInverse → Bool
+singular = is_err
+
+-- the bias group that a step tried, or the one before where there is no inverse
+abbrev pub left : Bias → Result TriedBias NoInverse → TriedBias
+left b t = result_unwrap_or t (record { finite = true; bias = b })
 
 -- what the three parts of a step leave: 5 comes before 6
-unfoldable pub acc_settled : Inertial → TriedRest → TriedInclination → TriedBias → Told Inertial
-acc_settled f r i b =
-    cond (singular b) (told 5 f)
-    (if_finite (r.finite && i.finite && b.finite) (with_state f (state_of i.inclination b.bias r.rest)) f)
+unfoldable pub acc_settled : Inertial → TriedRest → TriedInclination → Result TriedBias NoInverse → Told Inertial
+acc_settled f r i (Err e) = told 5 f
+acc_settled f r i (Ok b) = if_finite (r.finite && i.finite && b.finite) (with_state f (state_of i.inclination b.bias r.rest)) f
 
 module _ (w : Format) where
   unfoldable pub acc_step : Inertial → Vector → Told Inertial

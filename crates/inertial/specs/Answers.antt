@@ -1,5 +1,5 @@
 -- The table of refusals for the calls of the inertial half, over the format w: what is wrong with a call, told from the call and the filter.
-use Rattle.std.specs.Prelude.{◌≡◌, Bool, false, not, cond, ◌&&◌, ◌||◌, T, Float}
+use Rattle.std.specs.Prelude.{◌≡◌, Bool, false, not, cond, ◌&&◌, ◌||◌, T, Float, Result}
 use Rattle.std.specs.Float.{Format, binary64}
 use Rattle.std.specs.Float.Ieee.{neg, eq, le}
 use Rattle.std.specs.Float.Ieee.Scale as scale
@@ -9,6 +9,7 @@ use Rattle.algebra.specs.Quaternions as quaternions
 use Rattle.algebra.specs.Matrices.{adjugate, determinant}
 use Rattle.algebra.specs.declared.vector.Vector.{Vector}
 use Rattle.algebra.specs.declared.matrix.Matrix.{Matrix}
+use Rattle.algebra.specs.declared.matrix.NoInverse.{NoInverse}
 use Rattle.filters.specs.Coefficients.{filter_coeffs}
 use Rattle.filters.specs.declared.coeffs.Coeffs.{Coeffs}
 use Rattle.limits.specs.Answers.{Kept}
@@ -18,6 +19,7 @@ use Rattle.inertial.specs.Told.{state_of, with_state}
 use Rattle.inertial.specs.Gyr.{with_gyr_quat}
 use Rattle.tilt.specs.Gyr.{gyr_rest, predicted}
 use Rattle.inertial.specs.Kalman.{rotation, smoothed, measured, widened, innovation, bias_step}
+use Rattle.inertial.specs.Acc.{left}
 use Rattle.tilt.specs.Acc.{acc_rest, inclined}
 use Rattle.inertial.specs.Setters.{with_tau_acc, with_acc_lp, adapted_bias, bias_taken, sigma_or_none_taken}
 use Rattle.tilt.specs.Setters.{adapted_inclination}
@@ -47,10 +49,13 @@ module _ (w : Format) where
   abbrev pub inclination_of : Inertial → Vector → TriedInclination
   inclination_of f acc = inclined w f.state.inclination f.params.tau_acc f.coeffs.acc_ts f.coeffs.acc_lp acc
 
-  abbrev pub bias_of : Inertial → Vector → TriedBias
-  bias_of f acc =
+  abbrev pub bias_tried : Inertial → Vector → Result TriedBias NoInverse
+  bias_tried f acc =
       let i = inclination_of f acc in
       bias_step w f.state.bias f.params f.coeffs i.inclination (acc_rest_of f acc).rest i.acc_earth
+
+  abbrev pub bias_of : Inertial → Vector → TriedBias
+  bias_of f acc = left f.state.bias (bias_tried f acc)
 
   abbrev pub after_acc : Inertial → Vector → Inertial
   after_acc f acc = with_state f (state_of (inclination_of f acc).inclination (bias_of f acc).bias (acc_rest_of f acc).rest)

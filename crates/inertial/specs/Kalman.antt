@@ -1,5 +1,5 @@
 -- The bias estimate of the accelerometer step, over the format w.
-use Rattle.std.specs.Prelude.{Bool, true, false, cond, ◌&&◌, ◌||◌, List, [], ◌∷◌, get_or, Float}
+use Rattle.std.specs.Prelude.{Bool, true, cond, ◌&&◌, ◌||◌, List, [], ◌∷◌, get_or, Float, Result, Ok, Err}
 use Rattle.std.specs.Float.{nan, Format}
 use Rattle.std.specs.Float.Ieee.{neg, lt, le}
 use Rattle.floats.specs.Notation.{rounded, zero, one, two}
@@ -10,8 +10,7 @@ use Rattle.algebra.specs.Matrices as matrices
 use Rattle.algebra.specs.declared.vector.Vector.{Vector}
 use Rattle.algebra.specs.declared.quaternion.Quaternion.{Quaternion}
 use Rattle.algebra.specs.declared.matrix.Matrix.{Matrix}
-use Rattle.algebra.specs.declared.matrix.Inverse.{Inverse}
-use Rattle.algebra.specs.declared.matrix.Inverse.TheVariants as inverse
+use Rattle.algebra.specs.declared.matrix.NoInverse.{NoInverse}
 use Rattle.filters.specs.Banks.{filter_vec2, filter_vec9, finite_channels}
 use Rattle.filters.specs.declared.coeffs.Coeffs.{Coeffs}
 use Rattle.tilt.specs.Scalars.{square, radians}
@@ -23,8 +22,7 @@ use Rattle.inertial.specs.declared.types.InertialCoefficients.{InertialCoefficie
 use Rattle.tilt.specs.declared.types.Rest.{Rest}
 use Rattle.inertial.specs.declared.kalman.Smooth.{Smooth}
 use Rattle.inertial.specs.declared.kalman.Measurement.{Measurement}
-use Rattle.inertial.specs.declared.kalman.KalmanStep.{KalmanStep}
-use Rattle.inertial.specs.declared.kalman.KalmanStep.TheVariants.{TooSmall, NotFinite, Next}
+use Rattle.inertial.specs.declared.kalman.Estimate.{Estimate}
 use Rattle.inertial.specs.declared.kalman.TriedBias.{TriedBias}
 
 unfoldable pub finite_bias : Bias → Bool
@@ -49,17 +47,16 @@ with_diagonal m d =
     }
 
 -- the group after the filters and the estimate
-unfoldable pub updated_bias : Bias → Smooth → KalmanStep → TriedBias
-updated_bias b s TooSmall = record { det_too_small = true; det_not_finite = false; finite = true; bias = b }
-updated_bias b s NotFinite = record { det_too_small = false; det_not_finite = true; finite = true; bias = b }
-updated_bias b s (Next n) =
+unfoldable pub updated_bias : Smooth → Result Estimate NoInverse → Result TriedBias NoInverse
+updated_bias s (Err e) = Err e
+updated_bias s (Ok n) =
     let next : Bias = record {
       bias = n.bias;
       bias_p = n.bias_p;
       motion_bias_est_rlp_state = s.rlp_state;
       motion_bias_est_bias_lp_state = s.bias_lp_state;
     } in
-    record { det_too_small = false; det_not_finite = false; finite = finite_bias next; bias = next }
+    Ok (record { finite = finite_bias next; bias = next })
 
 module _ (w : Format) where
   open rounded w use {◌⊕◌, ◌⊖◌, ◌⊗◌, ◌⊘◌}
@@ -142,24 +139,23 @@ module _ (w : Format) where
   unfoldable pub shrunk : Matrix → Matrix → Matrix → Matrix
   shrunk p k r = minus w p (times w (times w k r) p)
 
-  abbrev pub by_inverse : Vector → Matrix → Measurement → Float → Inverse → KalmanStep
-  by_inverse bias p m c inverse.TooSmall = TooSmall
-  by_inverse bias p m c inverse.NotFinite = NotFinite
-  by_inverse bias p m c (inverse.Inverted i) =
+  abbrev pub by_inverse : Vector → Matrix → Measurement → Float → Result Matrix NoInverse → Result Estimate NoInverse
+  by_inverse bias p m c (Err e) = Err e
+  by_inverse bias p m c (Ok i) =
       let k = gain p m.r i in
-      Next (record { bias = clip (shifted bias k (clip m.e (neg c) c)) (neg c) c; bias_p = shrunk p k m.r })
+      Ok (record { bias = clip (shifted bias k (clip m.e (neg c) c)) (neg c) c; bias_p = shrunk p k m.r })
 
-  unfoldable pub estimated : Vector → Matrix → Measurement → Float → KalmanStep
+  unfoldable pub estimated : Vector → Matrix → Measurement → Float → Result Estimate NoInverse
   estimated bias p m c =
       cond (le (zero w) m.w.0)
       (by_inverse bias p m c (invert w (innovation p m.r m.w)))
-      (Next (record { bias = bias; bias_p = p }))
+      (Ok (record { bias = bias; bias_p = p }))
 
-  unfoldable pub bias_step : Bias → InertialParams → InertialCoefficients → Inclination → Rest → Vector → TriedBias
+  unfoldable pub bias_step : Bias → InertialParams → InertialCoefficients → Inclination → Rest → Vector → Result TriedBias NoInverse
   bias_step b p k i rest acc_earth =
       let r = rotation (quaternions.times w i.acc_quat i.gyr_quat) in
       let s = smoothed b r p.tau_acc k.acc_ts k.acc_lp in
       let m = measured s p k rest acc_earth b.bias in
       cond (p.bias.motion_bias_est_enabled || p.rest.rest_bias_est_enabled)
-      (updated_bias b s (estimated b.bias (widened b.bias_p k.bias) m (radians w p.rest.bias_clip)))
-      (record { det_too_small = false; det_not_finite = false; finite = true; bias = b })
+      (updated_bias s (estimated b.bias (widened b.bias_p k.bias) m (radians w p.rest.bias_clip)))
+      (Ok (record { finite = true; bias = b }))

@@ -1,5 +1,5 @@
 -- The types of the code, by their names.
-pub use Rattle.inertial.specs.declared.kalman.KalmanStep.{KalmanStep}
+pub use Rattle.inertial.specs.declared.kalman.Estimate.{Estimate}
 pub use Rattle.inertial.specs.declared.kalman.Measurement.{Measurement}
 pub use Rattle.inertial.specs.declared.kalman.Smooth.{Smooth}
 pub use Rattle.inertial.specs.declared.kalman.TriedBias.{TriedBias}

@@ -6,7 +6,7 @@ ghost use Rattle.inertial.specs.Acc.{update_acc, acc_step, acc_settled};
 
 use crate::kalman::{TriedBias, bias_step};
 use crate::types::{Inertial, Updated};
-use algebra::Vector;
+use algebra::{NoInverse, Vector};
 use limits::Answer;
 use tilt::acc::{TriedInclination, acc_rest, inclined};
 use tilt::rest::TriedRest;
@@ -64,24 +64,27 @@ impl Inertial {
     }
 
     // What the three parts of a step leave: 5 comes before 6.
-    fn acc_settled(self, r: TriedRest, i: TriedInclination, b: TriedBias) -> Updated
+    fn acc_settled(
+        self,
+        r: TriedRest,
+        i: TriedInclination,
+        b: Result<TriedBias, NoInverse>,
+    ) -> Updated
         ensures { told_of result ≡ acc_settled self r i b }
     {
-        if b.det_too_small | b.det_not_finite {
-            Updated {
+        match b {
+            Err(_) => Updated {
                 answer: Answer::Singular,
                 inertial: self,
-            }
-        } else if r.finite & i.finite & b.finite {
-            Updated {
+            },
+            Ok(b) if r.finite & i.finite & b.finite => Updated {
                 answer: Answer::Done,
                 inertial: self.with_groups(i.inclination, b.bias, r.rest),
-            }
-        } else {
-            Updated {
+            },
+            Ok(_) => Updated {
                 answer: Answer::NotFinite,
                 inertial: self,
-            }
+            },
         }
     }
 }

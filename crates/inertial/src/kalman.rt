@@ -4,7 +4,7 @@ ghost use Rattle.std.specs.Float.{binary64};
 ghost use Rattle.inertial.specs.Kalman.{rotation, smoothed, at_rest, in_motion, unmeasured, measured, raised, widened, innovation, gain, shifted, shrunk, estimated, finite_bias, updated_bias, bias_step};
 
 use crate::types::{Bias, BiasCoefficients, InertialCoefficients, InertialParams};
-use algebra::{Inverse, Matrix, Quaternion, Vector};
+use algebra::{Matrix, NoInverse, Quaternion, Vector};
 use filters::{Channel, Coeffs};
 use tilt::angle::radians;
 use tilt::{Inclination, Rest};
@@ -32,24 +32,14 @@ pub struct Estimate {
     pub bias_p: Matrix,
 }
 
-#[derive(Clone, Copy)]
-pub enum KalmanStep {
-    // The matrix to invert has a determinant within EPSILON of 0, or one that is not finite.
-    TooSmall,
-    NotFinite,
-    Next(Estimate),
-}
-
-// `bias` is the next group where the determinant is neither; `finite` says whether it is finite.
+// The next group, and whether it is finite.
 #[derive(Clone, Copy)]
 pub struct TriedBias {
-    pub det_too_small: bool,
-    pub det_not_finite: bool,
     pub finite: bool,
     pub bias: Bias,
 }
 
-// The bias group after an accelerometer sample, from the inclination and the rest after it.
+// The bias group after an accelerometer sample, from the inclination and the rest after it, or why the matrix to invert has no inverse.
 pub fn bias_step(
     b: Bias,
     params: InertialParams,
@@ -57,7 +47,7 @@ pub fn bias_step(
     i: Inclination,
     rest: Rest,
     acc_earth: Vector,
-) -> TriedBias
+) -> Result<TriedBias, NoInverse>
     ensures { result ≡ bias_step binary64 b params coeffs i rest acc_earth }
 {
     if params.bias.motion_bias_est_enabled | params.rest.rest_bias_est_enabled {
@@ -66,14 +56,12 @@ pub fn bias_step(
         let m = measured(s, params, coeffs, rest, acc_earth, b.bias);
         let p = widened(b.bias_p, coeffs.bias);
         let clip = radians(params.rest.bias_clip);
-        updated_bias(b, s, estimated(b.bias, p, m, clip))
+        updated_bias(s, estimated(b.bias, p, m, clip))
     } else {
-        TriedBias {
-            det_too_small: false,
-            det_not_finite: false,
+        Ok(TriedBias {
             finite: true,
             bias: b,
-        }
+        })
     }
 }
 
@@ -190,23 +178,17 @@ fn raised(x: f64, c: BiasCoefficients) -> f64
 }
 
 // The Kalman update from the widened covariance p; nothing is updated where nothing is measured.
-fn estimated(bias: Vector, p: Matrix, m: Measurement, clip: f64) -> KalmanStep
+fn estimated(bias: Vector, p: Matrix, m: Measurement, clip: f64) -> Result<Estimate, NoInverse>
     ensures { result ≡ estimated binary64 bias p m clip }
 {
     if m.w.0 >= 0.0 {
-        let inverse = innovation(p, m.r, m.w).invert();
-        match inverse {
-            Inverse::TooSmall => KalmanStep::TooSmall,
-            Inverse::NotFinite => KalmanStep::NotFinite,
-            Inverse::Inverted(i) => {
-                let k = gain(p, m.r, i);
-                let next = shifted(bias, k, m.e.clip(-clip, clip)).clip(-clip, clip);
-                let bias_p = shrunk(p, k, m.r);
-                KalmanStep::Next(Estimate { bias: next, bias_p })
-            }
-        }
+        let inverse = innovation(p, m.r, m.w).invert()?;
+        let k = gain(p, m.r, inverse);
+        let next = shifted(bias, k, m.e.clip(-clip, clip)).clip(-clip, clip);
+        let bias_p = shrunk(p, k, m.r);
+        Ok(Estimate { bias: next, bias_p })
     } else {
-        KalmanStep::Next(Estimate { bias, bias_p: p })
+        Ok(Estimate { bias, bias_p: p })
     }
 }
 
@@ -247,42 +229,20 @@ fn shrunk(p: Matrix, k: Matrix, r: Matrix) -> Matrix
 }
 
 // The group after the filters and the estimate.
-fn updated_bias(b: Bias, s: Smooth, estimated: KalmanStep) -> TriedBias
-    ensures { result ≡ updated_bias b s estimated }
+fn updated_bias(s: Smooth, estimated: Result<Estimate, NoInverse>) -> Result<TriedBias, NoInverse>
+    ensures { result ≡ updated_bias s estimated }
 {
-    match estimated {
-        KalmanStep::TooSmall => TriedBias {
-            det_too_small: true,
-            det_not_finite: false,
-            finite: true,
-            bias: b,
-        },
-        KalmanStep::NotFinite => TriedBias {
-            det_too_small: false,
-            det_not_finite: true,
-            finite: true,
-            bias: b,
-        },
-        KalmanStep::Next(n) => {
-            let rlp = s.rlp_state;
-            let lp = s.bias_lp_state;
-            let bias = n.bias;
-            let bias_p = n.bias_p;
-            let next = Bias {
-                bias,
-                bias_p,
-                motion_bias_est_rlp_state: rlp,
-                motion_bias_est_bias_lp_state: lp,
-            };
-            let finite = finite_bias(next);
-            TriedBias {
-                det_too_small: false,
-                det_not_finite: false,
-                finite,
-                bias: next,
-            }
-        }
-    }
+    let n = estimated?;
+    let rlp = s.rlp_state;
+    let lp = s.bias_lp_state;
+    let bias = Bias {
+        bias: n.bias,
+        bias_p: n.bias_p,
+        motion_bias_est_rlp_state: rlp,
+        motion_bias_est_bias_lp_state: lp,
+    };
+    let finite = finite_bias(bias);
+    Ok(TriedBias { finite, bias })
 }
 
 fn finite_bias(b: Bias) -> bool

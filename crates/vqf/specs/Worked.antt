@@ -1,5 +1,5 @@
 -- The worked values of document 01 that are marked P, and what document 02 changed or added, each below its line. Numbers are binary64; the calls are made on the fresh house filter.
-use Rattle.std.specs.Prelude.{◌≡◌, [], ◌∷◌, ℕ, ◌+◌, ◌^◌, Float}
+use Rattle.std.specs.Prelude.{◌≡◌, [], ◌∷◌, ℕ, ◌+◌, ◌^◌, Float, Ok, Err}
 use Rattle.std.specs.Float.{nan, binary64}
 use Rattle.std.specs.Float.Ieee.{neg, of_bits, to_bits}
 use Rattle.floats.specs.Decimals.{decimal, hundredth}
@@ -11,7 +11,7 @@ use Rattle.algebra.specs.Quaternions.{quaternion, rotate, times}
 use Rattle.algebra.specs.Matrices.{rows, invert}
 use Rattle.algebra.specs.declared.vector.Vector.{Vector}
 use Rattle.algebra.specs.declared.matrix.Matrix.{Matrix}
-use Rattle.algebra.specs.declared.matrix.Inverse.TheVariants.{TooSmall, NotFinite, Inverted}
+use Rattle.algebra.specs.declared.matrix.NoInverse.TheVariants.{TooSmall, NotFinite}
 use Rattle.filters.specs.Channels.{averaging, fresh, filter_initial_state}
 use Rattle.filters.specs.Banks.{filter_vec3}
 use Rattle.filters.specs.declared.coeffs.Coeffs.{Coeffs}
@@ -123,15 +123,15 @@ pub record Worked : Type 0 where
   -- "(0.5,0.5,0.5,0.5) rotates [1,2,3] to [3,1,2]"
   pub rotated : rotate binary64 (quaternion (part 2) (part 2) (part 2) (part 2)) (vector (whole 1) (whole 2) (whole 3)) ≡ vector (whole 3) (whole 1) (whole 2)
   -- "inverse of diagonal 2, 4, 8 is diagonal 0.5, 0.25, 0.125"
-  pub inverse : invert binary64 (diagonal (whole 2) (whole 4) (whole 8)) ≡ Inverted (diagonal (part 2) (part 4) (part 8))
+  pub inverse : invert binary64 (diagonal (whole 2) (whole 4) (whole 8)) ≡ Ok (diagonal (part 2) (part 4) (part 8))
   -- "diagonal 1, 1, 2^-52 has no inverse; with 2^-51 it has one"
-  pub no_inverse : invert binary64 (diagonal (whole 1) (whole 1) (part (2 ^ 52))) ≡ TooSmall
-  pub an_inverse : invert binary64 (diagonal (whole 1) (whole 1) (part (2 ^ 51))) ≡ Inverted (diagonal (whole 1) (whole 1) (whole (2 ^ 51)))
+  pub no_inverse : invert binary64 (diagonal (whole 1) (whole 1) (part (2 ^ 52))) ≡ Err TooSmall
+  pub an_inverse : invert binary64 (diagonal (whole 1) (whole 1) (part (2 ^ 51))) ≡ Ok (diagonal (whole 1) (whole 1) (whole (2 ^ 51)))
   -- a determinant of 2^1023 is divided by; one that overflows, to either side, and one that is a NaN are "not finite"
-  pub large_inverse : invert binary64 (diagonal (whole 1) (whole 1) (whole (2 ^ 1023))) ≡ Inverted (diagonal (whole 1) (whole 1) (part (2 ^ 1023)))
-  pub overflow : invert binary64 (diagonal (whole 2) (whole 1) (whole (2 ^ 1023))) ≡ NotFinite
-  pub overflow_below : invert binary64 (diagonal (neg (whole 2)) (whole 1) (whole (2 ^ 1023))) ≡ NotFinite
-  pub no_number : invert binary64 (diagonal (whole 1) (whole 1) nan) ≡ NotFinite
+  pub large_inverse : invert binary64 (diagonal (whole 1) (whole 1) (whole (2 ^ 1023))) ≡ Ok (diagonal (whole 1) (whole 1) (part (2 ^ 1023)))
+  pub overflow : invert binary64 (diagonal (whole 2) (whole 1) (whole (2 ^ 1023))) ≡ Err NotFinite
+  pub overflow_below : invert binary64 (diagonal (neg (whole 2)) (whole 1) (whole (2 ^ 1023))) ≡ Err NotFinite
+  pub no_number : invert binary64 (diagonal (whole 1) (whole 1) nan) ≡ Err NotFinite
   -- "averaging, interval 0.5, tau 1: [1,2,4] answers itself, then [3,4,8] answers [2,3,6] and averaging ends"
   pub averaged :
       (k : Coeffs)

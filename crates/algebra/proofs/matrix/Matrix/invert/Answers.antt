@@ -12,4 +12,4 @@ returns-then-det c = simp (simp (c.determinant-det.ensures, c.adjugate-cofactors
 
 pub returns-then-finite : goal.returns-then-finite
 unfolding invert
-returns-then-finite c = simp (c.divided-m.ensures, simp (c.finite.ensures, c.determinant-det.ensures, c.adjugate-cofactors.ensures) at c.if-finite.true, simp (c.determinant-det.ensures, c.adjugate-cofactors.ensures) at c.if-det.false, c.determinant-det.ensures, c.adjugate-cofactors.ensures)
+returns-then-finite c = simp (c.divided.ensures, simp (c.finite.ensures, c.determinant-det.ensures, c.adjugate-cofactors.ensures) at c.if-finite.true, simp (c.determinant-det.ensures, c.adjugate-cofactors.ensures) at c.if-det.false, c.determinant-det.ensures, c.adjugate-cofactors.ensures)

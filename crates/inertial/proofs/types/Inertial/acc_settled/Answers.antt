@@ -1,15 +1,15 @@
--- Each branch is the definition's, by the tests that led to it.
+-- Each arm is the definition's, by the variant that was matched and the test that led to it.
 use Rattle.inertial.specs.Acc.{acc_settled}
 use Rattle.inertial.proofs.types.Inertial.acc_settled.Goals as goal
 
-pub returns-then-b : goal.returns-then-b
+pub returns-in-Err : goal.returns-in-Err
 unfolding acc_settled
-returns-then-b c = simp c.if-b.true
+returns-in-Err c = simp c.in-Err.is
 
-pub returns-then-r-i : goal.returns-then-r-i
+pub returns-in-Ok : goal.returns-in-Ok
 unfolding acc_settled
-returns-then-r-i c = simp (← c.with_groups.ensures, c.if-r-i.true, c.if-b.false)
+returns-in-Ok c = simp (← c.with_groups.ensures, c.if-r-i.true, c.in-Ok.is)
 
-pub returns-else-r-i : goal.returns-else-r-i
+pub returns-in-Ok-2 : goal.returns-in-Ok-2
 unfolding acc_settled
-returns-else-r-i c = simp (c.if-r-i.false, c.if-b.false)
+returns-in-Ok-2 c = simp (c.if-r-i.false, c.in-Ok.is)
