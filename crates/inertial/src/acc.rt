@@ -64,6 +64,7 @@ impl Inertial {
     }
 
     // What the three parts of a step leave: 5 comes before 6.
+    #[tactic(auto, unfolding(crate::specs::Acc::acc_settled))]
     fn acc_settled(
         self,
         r: TriedRest,

@@ -178,6 +178,7 @@ fn raised(x: f64, c: BiasCoefficients) -> f64
 }
 
 // The Kalman update from the widened covariance p; nothing is updated where nothing is measured.
+#[tactic(auto, unfolding(crate::specs::Kalman::estimated))]
 fn estimated(bias: Vector, p: Matrix, m: Measurement, clip: f64) -> Result<Estimate, NoInverse>
     ensures { result ≡ estimated binary64 bias p m clip }
 {
@@ -229,6 +230,7 @@ fn shrunk(p: Matrix, k: Matrix, r: Matrix) -> Matrix
 }
 
 // The group after the filters and the estimate.
+#[tactic(auto, unfolding(crate::specs::Kalman::updated_bias))]
 fn updated_bias(s: Smooth, estimated: Result<Estimate, NoInverse>) -> Result<TriedBias, NoInverse>
     ensures { result ≡ updated_bias s estimated }
 {
