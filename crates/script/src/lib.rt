@@ -2,6 +2,7 @@
 #![tactic(auto)]
 
 pub mod line;
+pub mod lines;
 mod names;
 pub mod play;
 mod printed;
@@ -9,6 +10,8 @@ pub mod reader;
 pub mod request;
 
 pub use line::{Fault, Line, What};
+pub use lines::Lines;
 pub use play::called;
+pub use printed::Packed;
 pub use reader::Reader;
 pub use request::{Call, Construction, Request, Samples};
