@@ -1,6 +1,8 @@
 -- `unpack` undoes `pack`, field by field: a flag, a phase and a bank of channels are read as they were written, and any other number is itself.
 use Rattle.std.specs.Prelude.{Option, None, Some}
-use Rattle.floats.specs.Prelude.{◌≡◌, refl, ap, ◌∙◌, Bool, true, false, List, [], ◌∷◌, ℕ, zero, suc, suc_inj, arith, length, eq, ne, of_bits}
+use Rattle.floats.specs.Prelude.{◌≡◌, refl, ap, ◌∙◌, Bool, true, false, List, [], ◌∷◌, ◌++◌, sym, ℕ, zero, suc, ◌≤◌, le_of_eq, arith, length, take, eq, ne, of_bits}
+use Rattle.std.proofs.Math.Seq.{take-suc}
+use Rattle.std.proofs.lemmas.List.{take_all}
 use Rattle.filters.specs.Banks.{channel}
 use Rattle.filters.specs.declared.channel.Phase.{Phase}
 use Rattle.filters.specs.declared.channel.Phase.TheVariants.{Averaging, Running}
@@ -29,27 +31,25 @@ channel_marked c = go c.phase
     go (Running a b) = refl
 
 -- ---- banks
-abbrev build : ℕ → (ℕ → Channel) → List Channel
-build zero f = []
-build (suc n) f = f 0 ∷ build n (λ i. f (suc i))
+abbrev first : ℕ → List Channel → List Channel
+first zero c = []
+first (suc n) c = first n c ++ channel c n ∷ []
 
-build_all : (n : ℕ) (c : List Channel) → length c ≡ n → build n (channel c) ≡ c
-build_all zero [] h = refl
-build_all zero (x ∷ c) h = absurd (omega arith)
-build_all (suc n) [] h = absurd (omega arith)
-build_all (suc n) (x ∷ c) h = ap (λ (t : List Channel). x ∷ t) (build_all n c (suc_inj h))
+first_is : (n : ℕ) (c : List Channel) → n ≤ length c → first n c ≡ take n c
+first_is zero c h = refl
+first_is (suc n) c h = ap (λ (t : List Channel). t ++ channel c n ∷ []) (first_is n c (omega arith)) ∙ sym (take-suc c n _ (omega arith))
 
-bank2 : (c : List Channel) → length c ≡ 2 → of.channels2 (to.channels2 c) 0 ≡ c
-unfolding to.channels2
-bank2 c h = (λ j. channel_marked (channel c 0) j ∷ channel_marked (channel c 1) j ∷ []) ∙ build_all 2 c h
+-- what is read of n channels that were written, and they themselves
+abbrev again : ℕ → List Channel → List Channel
+again zero c = []
+again (suc n) c = again n c ++ marks.channel (marked (channel c n)).0 (marked (channel c n)).1 (marked (channel c n)).2 ∷ []
 
-bank3 : (c : List Channel) → length c ≡ 3 → of.channels3 (to.channels3 c) 0 ≡ c
-unfolding to.channels3
-bank3 c h = (λ j. channel_marked (channel c 0) j ∷ channel_marked (channel c 1) j ∷ channel_marked (channel c 2) j ∷ []) ∙ build_all 3 c h
-
-bank9 : (c : List Channel) → length c ≡ 9 → of.channels9 (to.channels9 c) 0 ≡ c
-unfolding to.channels9
-bank9 c h = (λ j. channel_marked (channel c 0) j ∷ channel_marked (channel c 1) j ∷ channel_marked (channel c 2) j ∷ channel_marked (channel c 3) j ∷ channel_marked (channel c 4) j ∷ channel_marked (channel c 5) j ∷ channel_marked (channel c 6) j ∷ channel_marked (channel c 7) j ∷ channel_marked (channel c 8) j ∷ []) ∙ build_all 9 c h
+bank : (n : ℕ) (c : List Channel) → length c ≡ n → again n c ≡ c
+bank n c h = same n ∙ first_is n c (omega arith) ∙ take_all n c (le_of_eq h)
+  where
+    same : (k : ℕ) → again k c ≡ first k c
+    same zero = refl
+    same (suc k) = λ j. same k j ++ channel_marked (channel c k) j ∷ []
 
 -- ---- the filter of the norm and dip
 smoothed : (s : Option Coeffs) → of.smoothing (to.smoothing s) 0 ≡ s
@@ -57,8 +57,8 @@ unfolding flag on of_bits eq ne
 smoothed None = refl
 smoothed (Some k) = refl
 
-read_pack : (f : VQF) → FullBanks f → of.read (to.pack f) ≡ f
-unfolding to.pack to.all_params to.all_coeffs to.all_inclination to.all_bias to.all_rest to.all_magnetic_state to.inertial_params to.magnetic_params to.inertial_coeffs to.magnetic_coeffs to.inclination to.bias to.rest to.magnetic_state to.channels2 to.channels3 to.channels9 of.inertial_params of.magnetic_params of.inertial_coeffs of.magnetic_coeffs of.inclination of.bias of.rest of.magnetic_state
+pub read_pack : (f : VQF) → FullBanks f → of.read (to.pack f) ≡ f
+unfolding to.pack to.all_params to.all_coeffs to.all_inclination to.all_bias to.all_rest to.all_magnetic_state to.inertial_params to.magnetic_params to.inertial_coeffs to.magnetic_coeffs to.inclination to.bias to.rest to.magnetic_state to.channels of.inertial_params of.magnetic_params of.inertial_coeffs of.magnetic_coeffs of.inclination of.bias of.rest of.magnetic_state of.channels
 read_pack f h = λ j. record {
   inertial = record {
     params = record {
@@ -87,23 +87,23 @@ read_pack f h = λ j. record {
         gyr_quat = f.inertial.state.inclination.gyr_quat;
         acc_quat = f.inertial.state.inclination.acc_quat;
         last_acc_lp = f.inertial.state.inclination.last_acc_lp;
-        acc_lp_state = bank3 f.inertial.state.inclination.acc_lp_state h.acc_lp j;
+        acc_lp_state = bank 3 f.inertial.state.inclination.acc_lp_state h.acc_lp j;
         last_acc_corr_angular_rate = f.inertial.state.inclination.last_acc_corr_angular_rate;
       };
       bias = record {
         bias = f.inertial.state.bias.bias;
         bias_p = f.inertial.state.bias.bias_p;
-        motion_bias_est_rlp_state = bank9 f.inertial.state.bias.motion_bias_est_rlp_state h.rlp j;
-        motion_bias_est_bias_lp_state = bank2 f.inertial.state.bias.motion_bias_est_bias_lp_state h.bias_lp j;
+        motion_bias_est_rlp_state = bank 9 f.inertial.state.bias.motion_bias_est_rlp_state h.rlp j;
+        motion_bias_est_bias_lp_state = bank 2 f.inertial.state.bias.motion_bias_est_bias_lp_state h.bias_lp j;
       };
       rest = record {
         rest_detected = on_flag f.inertial.state.rest.rest_detected j;
         rest_last_squared_deviations = f.inertial.state.rest.rest_last_squared_deviations;
         rest_t = f.inertial.state.rest.rest_t;
         rest_last_gyr_lp = f.inertial.state.rest.rest_last_gyr_lp;
-        rest_gyr_lp_state = bank3 f.inertial.state.rest.rest_gyr_lp_state h.rest_gyr_lp j;
+        rest_gyr_lp_state = bank 3 f.inertial.state.rest.rest_gyr_lp_state h.rest_gyr_lp j;
         rest_last_acc_lp = f.inertial.state.rest.rest_last_acc_lp;
-        rest_acc_lp_state = bank3 f.inertial.state.rest.rest_acc_lp_state h.rest_acc_lp j;
+        rest_acc_lp_state = bank 3 f.inertial.state.rest.rest_acc_lp_state h.rest_acc_lp j;
       };
     };
   };
@@ -127,12 +127,12 @@ read_pack f h = λ j. record {
         mag_candidate_dip = f.magnetic.state.field.mag_candidate_dip;
         mag_candidate_t = f.magnetic.state.field.mag_candidate_t;
         mag_norm_dip = f.magnetic.state.field.mag_norm_dip;
-        mag_norm_dip_lp_state = bank2 f.magnetic.state.field.mag_norm_dip_lp_state h.norm_dip_lp j;
+        mag_norm_dip_lp_state = bank 2 f.magnetic.state.field.mag_norm_dip_lp_state h.norm_dip_lp j;
       };
     };
   };
 }
 
 pub unpack_pack : Inverse
-unfolding to.pack to.all_params to.all_coeffs to.all_inclination to.all_bias to.all_rest to.all_magnetic_state to.inertial_params to.magnetic_params to.inertial_coeffs to.magnetic_coeffs to.inclination to.bias to.rest to.magnetic_state to.channels2 to.channels3 to.channels9 unpack
+unfolding to.pack to.all_params to.all_coeffs to.all_inclination to.all_bias to.all_rest to.all_magnetic_state to.inertial_params to.magnetic_params to.inertial_coeffs to.magnetic_coeffs to.inclination to.bias to.rest to.magnetic_state to.channels unpack
 unpack_pack f h = read_pack f h

@@ -1,10 +1,11 @@
 -- Runs that are written one after the other are one run, by recursion over the list; so the six parts of an image are the whole (`put_pack`).
-use Rattle.floats.specs.Prelude.{◌≡◌, refl, sym, ap, ◌∙◌, List, [], ◌∷◌, ◌++◌, append-nil, ℕ, zero, suc, ◌+◌, ◌<◌, zero-add, add-zero, suc-add, suc_inj, le_of_lt, arith, length, get_or, set, take, Float, nan}
-use lib.Seq.{take-suc, length-take-le}
+use Rattle.std.proofs.Common.{length-append, take-append-drop}
+use Rattle.floats.specs.Prelude.{◌≡◌, refl, sym, ap, ◌∙◌, List, [], ◌∷◌, ◌++◌, append-nil, ℕ, zero, suc, ◌+◌, ◌*◌, ◌≤◌, zero-add, add-zero, suc-add, add-suc, suc_inj, arith, length, take, drop, Float}
+use Rattle.filters.specs.declared.channel.Channel.{Channel}
 use Rattle.vqf.specs.declared.types.VQF.{VQF}
 use Rattle.image.specs.Put.{put}
 use Rattle.image.specs.Image.{SIZE}
-use Rattle.image.specs.Pack.{all_params, all_coeffs, all_inclination, all_bias, all_rest, all_magnetic_state, inertial_params, magnetic_params, inertial_coeffs, magnetic_coeffs, inclination, bias, rest, magnetic_state, channels2, channels3, channels9, pack}
+use Rattle.image.specs.Pack.{all_params, all_coeffs, all_inclination, all_bias, all_rest, all_magnetic_state, inertial_params, magnetic_params, inertial_coeffs, magnetic_coeffs, inclination, bias, rest, magnetic_state, one_channel, channels, pack}
 
 pub length_put : (xs l : List Float) (n : ℕ) → length (put xs l n) ≡ length l
 unfolding put
@@ -46,19 +47,26 @@ put_all (x ∷ xs) [] h = absurd (no h)
     no h = omega arith
 put_all (x ∷ xs) (y ∷ l) h = ap (λ (t : List Float). x ∷ t) (put_all xs l (suc_inj h))
 
--- a turn of the loop that writes: one number more
-set_put : (l : List Float) (n : ℕ) (a : Float) → set l n a ≡ put (a ∷ []) l n
+-- a run that fits, as the library writes it
+pub put_at : (xs l : List Float) (n : ℕ) → n + length xs ≤ length l → put xs l n ≡ take n l ++ (xs ++ drop (n + length xs) l)
 unfolding put
-set_put [] n a = refl
-set_put (y ∷ l) zero a = refl
-set_put (y ∷ l) (suc n) a = ap (λ (t : List Float). y ∷ t) (set_put l n a)
+put_at [] l n h = simp (add-zero, take-append-drop) refl
+put_at (x ∷ xs) [] n h = absurd (omega arith)
+put_at (x ∷ xs) (y ∷ l) zero h =
+    ap (λ (t : List Float). x ∷ t) (put_at xs l zero (omega arith)) ∙ ap (λ (k : ℕ). (x ∷ xs) ++ drop k (y ∷ l)) (sym (add-suc 0 (length xs)))
+put_at (x ∷ xs) (y ∷ l) (suc n) h =
+    ap (λ (t : List Float). y ∷ t) (put_at (x ∷ xs) l n (omega arith))
+    ∙ ap (λ (k : ℕ). (y ∷ take n l) ++ ((x ∷ xs) ++ drop k (y ∷ l))) (sym (suc-add n (suc (length xs))))
 
-pub put_more : (xs l : List Float) (n i : ℕ) → i < length xs → set (put (take i xs) l n) (n + i) (get_or xs i nan) ≡ put (take (suc i) xs) l n
-put_more xs l n i h =
-    set_put (put (take i xs) l n) (n + i) (get_or xs i nan)
-    ∙ ap (λ (k : ℕ). put (get_or xs i nan ∷ []) (put (take i xs) l n) (n + k)) (sym (length-take-le i xs (le_of_lt h)))
-    ∙ put_put (take i xs) (get_or xs i nan ∷ []) l n
-    ∙ ap (λ (t : List Float). put t l n) (sym (take-suc xs i nan h))
+-- one channel more
+length_channels : (n : ℕ) (c : List Channel) → length (channels n c) ≡ 3 * n
+unfolding channels
+length_channels zero c = refl
+length_channels (suc n) c = simp length-append (rw (length_channels n c) (omega arith))
+
+pub put_channel : (c : List Channel) (l : List Float) (n at : ℕ) → put (one_channel c n) (put (channels n c) l at) (at + 3 * n) ≡ put (channels (suc n) c) l at
+unfolding channels
+put_channel c l n at = rw (← length_channels n c) (put_put (channels n c) (one_channel c n) l at)
 
 -- the six parts one after the other, over a list of the right length, are the whole
 module _ (f : VQF) (l : List Float) (h : length l ≡ SIZE) {l₁ l₂ l₃ l₄ l₅ l₆ : List Float} where
@@ -70,7 +78,7 @@ module _ (f : VQF) (l : List Float) (h : length l ≡ SIZE) {l₁ l₂ l₃ l₄
       → l₅ ≡ put (all_rest f.inertial.state.rest) l₄ 122
       → l₆ ≡ put (all_magnetic_state f.magnetic.state) l₅ 150
       → l₆ ≡ pack f
-  unfolding pack all_params all_coeffs all_inclination all_bias all_rest all_magnetic_state inertial_params magnetic_params inertial_coeffs magnetic_coeffs inclination bias rest magnetic_state channels2 channels3 channels9
+  unfolding pack all_params all_coeffs all_inclination all_bias all_rest all_magnetic_state inertial_params magnetic_params inertial_coeffs magnetic_coeffs inclination bias rest magnetic_state channels
   put_pack e₁ e₂ e₃ e₄ e₅ e₆ =
       let a = all_params f.inertial.params f.magnetic.params in
       let b = all_coeffs f.inertial.coeffs f.magnetic.coeffs in

@@ -1,5 +1,5 @@
 -- A filter as a list of numbers: each stored number as itself, in the order of the fields, each flag and phase as its mark. The settings come first.
-use Rattle.std.specs.Prelude.{Bool, true, false, List, [], ◌∷◌, ◌++◌, ℕ, Option, None, Some, Float}
+use Rattle.std.specs.Prelude.{Bool, true, false, List, [], ◌∷◌, ◌++◌, ℕ, zero as none, suc, Option, None, Some, Float}
 use Rattle.std.specs.Float.{binary64}
 use Rattle.floats.specs.Notation.{zero}
 use Rattle.filters.specs.Banks.{channel}
@@ -18,20 +18,16 @@ use Rattle.image.specs.Marks.{flag, marked}
 use Rattle.image.specs.declared.marks.Mark.{Mark}
 
 -- ---- banks of channels
-abbrev triple : Mark → List Float
+abbrev pub triple : Mark → List Float
 triple m = m.0 ∷ m.1 ∷ m.2 ∷ []
 
-abbrev one_channel : List Channel → ℕ → List Float
+abbrev pub one_channel : List Channel → ℕ → List Float
 one_channel c i = triple (marked (channel c i))
 
-unfoldable pub channels2 : List Channel → List Float
-channels2 c = one_channel c 0 ++ one_channel c 1
-
-unfoldable pub channels3 : List Channel → List Float
-channels3 c = one_channel c 0 ++ one_channel c 1 ++ one_channel c 2
-
-unfoldable pub channels9 : List Channel → List Float
-channels9 c = one_channel c 0 ++ one_channel c 1 ++ one_channel c 2 ++ one_channel c 3 ++ one_channel c 4 ++ one_channel c 5 ++ one_channel c 6 ++ one_channel c 7 ++ one_channel c 8
+-- the first n channels of c
+unfoldable pub channels : ℕ → List Channel → List Float
+channels none c = []
+channels (suc n) c = channels n c ++ one_channel c n
 
 -- ---- settings
 unfoldable pub inertial_params : InertialParams → List Float
@@ -105,16 +101,16 @@ unfoldable pub all_coeffs : InertialCoefficients → MagneticCoefficients → Li
 all_coeffs i m = inertial_coeffs i ++ magnetic_coeffs m
 
 unfoldable pub all_inclination : Inclination → List Float
-all_inclination s = inclination s ++ channels3 s.acc_lp_state
+all_inclination s = inclination s ++ channels 3 s.acc_lp_state
 
 unfoldable pub all_bias : Bias → List Float
-all_bias s = (bias s ++ channels9 s.motion_bias_est_rlp_state) ++ channels2 s.motion_bias_est_bias_lp_state
+all_bias s = (bias s ++ channels 9 s.motion_bias_est_rlp_state) ++ channels 2 s.motion_bias_est_bias_lp_state
 
 unfoldable pub all_rest : Rest → List Float
-all_rest s = (rest s ++ channels3 s.rest_gyr_lp_state) ++ channels3 s.rest_acc_lp_state
+all_rest s = (rest s ++ channels 3 s.rest_gyr_lp_state) ++ channels 3 s.rest_acc_lp_state
 
 unfoldable pub all_magnetic_state : MagneticState → List Float
-all_magnetic_state s = magnetic_state s ++ channels2 s.field.mag_norm_dip_lp_state
+all_magnetic_state s = magnetic_state s ++ channels 2 s.field.mag_norm_dip_lp_state
 
 -- ---- the whole
 unfoldable pub pack : VQF → List Float

@@ -1,5 +1,5 @@
 -- A list of numbers as a filter. Any list is read: past its end is a NaN, and a mark is read as `Marks` says.
-use Rattle.std.specs.Prelude.{cond, List, [], ◌∷◌, ℕ, ◌+◌, get_or, Option, None, Some, Float}
+use Rattle.std.specs.Prelude.{cond, List, [], ◌∷◌, ◌++◌, ℕ, zero, suc, ◌+◌, ◌*◌, get_or, Option, None, Some, Float}
 use Rattle.std.specs.Float.{nan}
 use Rattle.algebra.specs.declared.matrix.Matrix.{Matrix}
 use Rattle.algebra.specs.declared.quaternion.Quaternion.{Quaternion}
@@ -43,14 +43,10 @@ smoothing s i = cond (on (number s i)) (Some (coeffs s (i + 1))) None
 abbrev pub channel_at : List Float → ℕ → Channel
 channel_at s i = channel (number s i) (number s (i + 1)) (number s (i + 2))
 
-abbrev pub channels2 : List Float → ℕ → List Channel
-channels2 s i = channel_at s i ∷ channel_at s (i + 3) ∷ []
-
-abbrev pub channels3 : List Float → ℕ → List Channel
-channels3 s i = channel_at s i ∷ channel_at s (i + 3) ∷ channel_at s (i + 6) ∷ []
-
-abbrev pub channels9 : List Float → ℕ → List Channel
-channels9 s i = channel_at s i ∷ channel_at s (i + 3) ∷ channel_at s (i + 6) ∷ channel_at s (i + 9) ∷ channel_at s (i + 12) ∷ channel_at s (i + 15) ∷ channel_at s (i + 18) ∷ channel_at s (i + 21) ∷ channel_at s (i + 24) ∷ []
+-- n channels, one after the other
+unfoldable pub channels : ℕ → List Float → ℕ → List Channel
+channels zero s i = []
+channels (suc n) s i = channels n s i ++ channel_at s (i + 3 * n) ∷ []
 
 -- ---- settings
 unfoldable pub inertial_params : List Float → InertialParams
@@ -119,7 +115,7 @@ inclination s = record {
   gyr_quat = quaternion s 56;
   acc_quat = quaternion s 60;
   last_acc_lp = vector s 64;
-  acc_lp_state = channels3 s 68;
+  acc_lp_state = channels 3 s 68;
   last_acc_corr_angular_rate = number s 67;
 }
 
@@ -127,8 +123,8 @@ unfoldable pub bias : List Float → Bias
 bias s = record {
   bias = vector s 77;
   bias_p = matrix s 80;
-  motion_bias_est_rlp_state = channels9 s 89;
-  motion_bias_est_bias_lp_state = channels2 s 116;
+  motion_bias_est_rlp_state = channels 9 s 89;
+  motion_bias_est_bias_lp_state = channels 2 s 116;
 }
 
 unfoldable pub rest : List Float → Rest
@@ -137,9 +133,9 @@ rest s = record {
   rest_last_squared_deviations = record { 0 = number s 123; 1 = number s 124 };
   rest_t = number s 125;
   rest_last_gyr_lp = vector s 126;
-  rest_gyr_lp_state = channels3 s 132;
+  rest_gyr_lp_state = channels 3 s 132;
   rest_last_acc_lp = vector s 129;
-  rest_acc_lp_state = channels3 s 141;
+  rest_acc_lp_state = channels 3 s 141;
 }
 
 unfoldable pub magnetic_state : List Float → MagneticState
@@ -160,7 +156,7 @@ magnetic_state s = record {
     mag_candidate_dip = number s 160;
     mag_candidate_t = number s 161;
     mag_norm_dip = record { 0 = number s 162; 1 = number s 163 };
-    mag_norm_dip_lp_state = channels2 s 164;
+    mag_norm_dip_lp_state = channels 2 s 164;
   };
 }
 

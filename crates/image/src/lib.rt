@@ -9,6 +9,8 @@ pub mod marks;
 pub mod pack;
 pub mod unpack;
 
+pub use crate::pack::WrongLength;
+
 // The numbers of an image, and of the settings, with which it begins.
 pub const SIZE: usize = 170;
 
@@ -19,6 +21,6 @@ pub fn round_trip(f: VQF) -> VQF
     ensures { result ≡ f }
 {
     let mut image = [0.0; SIZE];
-    pack::pack(&mut image, f);
-    unpack::unpack(&image)
+    pack::put_all(&mut image, f);
+    unpack::read(&image)
 }

@@ -9,6 +9,7 @@ use filters::{Channel, Phase};
 pub struct Mark(pub f64, pub f64, pub f64);
 
 // 1 for yes, 0 for no.
+#[tactic(auto, unfolding(crate::specs::Marks::flag))]
 pub fn flag(b: bool) -> f64
     ensures { result ≡ flag b }
 {
@@ -16,6 +17,7 @@ pub fn flag(b: bool) -> f64
 }
 
 // Anything but 0 is yes.
+#[tactic(auto, unfolding(crate::specs::Marks::on))]
 pub fn on(x: f64) -> bool
     ensures { result ≡ on x }
 {
@@ -23,17 +25,18 @@ pub fn on(x: f64) -> bool
 }
 
 // A channel as its mark and its two numbers.
+#[tactic(auto, unfolding(crate::specs::Marks::marked))]
 pub fn marked(c: Channel) -> Mark
     ensures { result ≡ marked c }
 {
-    let phase = c.phase;
-    match phase {
+    match c.phase {
         Phase::Averaging(count, sum) => Mark(0.0, count, sum),
         Phase::Running(s0, s1) => Mark(1.0, s0, s1),
     }
 }
 
 // The channel of a mark and two numbers.
+#[tactic(auto, unfolding(crate::specs::Marks::channel))]
 pub fn channel(mark: f64, first: f64, second: f64) -> Channel
     ensures { result ≡ channel mark first second }
 {

@@ -1,92 +1,67 @@
 // A filter into an image, group by group.
-ghost use Rattle.std.specs.Prelude.{◌≡◌, ◌+◌, ◌≤◌, length};
+ghost use Rattle.std.specs.Prelude.{◌≡◌, ◌+◌, ◌*◌, ◌≤◌, length};
 ghost use Rattle.image.specs.Put.{put};
-ghost use Rattle.image.specs.Pack.{channels2, channels3, channels9, inertial_params, magnetic_params, inertial_coeffs, magnetic_coeffs, inclination, bias, rest, magnetic_state, all_params, all_coeffs, all_inclination, all_bias, all_rest, all_magnetic_state, pack};
-ghost use Rattle.image.specs.Image.{SIZE, fits, packed};
+ghost use Rattle.image.specs.Marks.{marked};
+ghost use Rattle.image.specs.Pack.{triple, channels, inertial_coeffs, magnetic_coeffs, inclination, bias, rest, magnetic_state, all_params, all_coeffs, all_inclination, all_bias, all_rest, all_magnetic_state, pack};
+ghost use Rattle.image.specs.Image.{written, packed};
 
-use crate::SIZE;
 use crate::marks::{flag, marked};
+use crate::{SETTINGS, SIZE};
 use filters::Channel;
+use inertial::InertialCoefficients;
 use inertial::types::Bias;
-use inertial::{InertialCoefficients, InertialParams};
-use magnetic::{MagneticCoefficients, MagneticParams, MagneticState};
+use magnetic::{MagneticCoefficients, MagneticState};
 use tilt::{Inclination, Rest};
-use vqf::VQF;
+use vqf::{Params, VQF};
 
-fn channels2(c: [Channel; 2]) -> [f64; 6]
-    ensures { result ≡ channels2 c }
+// An image that has another length than SIZE.
+#[derive(Clone, Copy, PartialEq, Eq)]
+pub struct WrongLength;
+
+fn triple(c: Channel) -> [f64; 3]
+    ensures { result ≡ triple (marked c) }
 {
-    let m0 = marked(c[0]);
-    let m1 = marked(c[1]);
-    [m0.0, m0.1, m0.2, m1.0, m1.1, m1.2]
+    let m = marked(c);
+    [m.0, m.1, m.2]
 }
 
-fn channels3(c: [Channel; 3]) -> [f64; 9]
-    ensures { result ≡ channels3 c }
+// The settings as numbers, in the order in which an image has them.
+#[tactic(auto, unfolding(crate::specs::Pack::all_params, crate::specs::Pack::inertial_params, crate::specs::Pack::magnetic_params))]
+pub fn settings(p: Params) -> [f64; SETTINGS]
+    ensures { result ≡ all_params p.inertial p.magnetic }
 {
-    let m0 = marked(c[0]);
-    let m1 = marked(c[1]);
-    let m2 = marked(c[2]);
-    [m0.0, m0.1, m0.2, m1.0, m1.1, m1.2, m2.0, m2.1, m2.2]
-}
-
-fn channels9(c: [Channel; 9]) -> [f64; 27]
-    ensures { result ≡ channels9 c }
-{
-    let m0 = marked(c[0]);
-    let m1 = marked(c[1]);
-    let m2 = marked(c[2]);
-    let m3 = marked(c[3]);
-    let m4 = marked(c[4]);
-    let m5 = marked(c[5]);
-    let m6 = marked(c[6]);
-    let m7 = marked(c[7]);
-    let m8 = marked(c[8]);
+    let i = p.inertial;
+    let m = p.magnetic;
     [
-        m0.0, m0.1, m0.2, m1.0, m1.1, m1.2, m2.0, m2.1, m2.2, m3.0, m3.1, m3.2, m4.0, m4.1, m4.2,
-        m5.0, m5.1, m5.2, m6.0, m6.1, m6.2, m7.0, m7.1, m7.2, m8.0, m8.1, m8.2,
+        i.tau_acc,
+        flag(i.rest.rest_bias_est_enabled),
+        flag(i.rest.mag_dist_rejection_enabled),
+        i.rest.bias_clip,
+        i.rest.rest_min_t,
+        i.rest.rest_filter_tau,
+        i.rest.rest_th_gyr,
+        i.rest.rest_th_acc,
+        flag(i.bias.motion_bias_est_enabled),
+        i.bias.bias_sigma_init,
+        i.bias.bias_forgetting_time,
+        i.bias.bias_sigma_motion,
+        i.bias.bias_vertical_forgetting_factor,
+        i.bias.bias_sigma_rest,
+        m.tau_mag,
+        m.mag_current_tau,
+        m.mag_ref_tau,
+        m.mag_norm_th,
+        m.mag_dip_th,
+        m.mag_new_time,
+        m.mag_new_first_time,
+        m.mag_new_min_gyr,
+        m.mag_min_undisturbed_time,
+        m.mag_max_rejection_time,
+        m.mag_rejection_factor,
     ]
 }
 
-fn inertial_params(p: InertialParams) -> [f64; 14]
-    ensures { result ≡ inertial_params p }
-{
-    [
-        p.tau_acc,
-        flag(p.rest.rest_bias_est_enabled),
-        flag(p.rest.mag_dist_rejection_enabled),
-        p.rest.bias_clip,
-        p.rest.rest_min_t,
-        p.rest.rest_filter_tau,
-        p.rest.rest_th_gyr,
-        p.rest.rest_th_acc,
-        flag(p.bias.motion_bias_est_enabled),
-        p.bias.bias_sigma_init,
-        p.bias.bias_forgetting_time,
-        p.bias.bias_sigma_motion,
-        p.bias.bias_vertical_forgetting_factor,
-        p.bias.bias_sigma_rest,
-    ]
-}
-
-fn magnetic_params(p: MagneticParams) -> [f64; 11]
-    ensures { result ≡ magnetic_params p }
-{
-    [
-        p.tau_mag,
-        p.mag_current_tau,
-        p.mag_ref_tau,
-        p.mag_norm_th,
-        p.mag_dip_th,
-        p.mag_new_time,
-        p.mag_new_first_time,
-        p.mag_new_min_gyr,
-        p.mag_min_undisturbed_time,
-        p.mag_max_rejection_time,
-        p.mag_rejection_factor,
-    ]
-}
-
+#[tactic(auto, unfolding(crate::specs::Pack::inertial_coeffs))]
 fn inertial_coeffs(k: InertialCoefficients) -> [f64; 22]
     ensures { result ≡ inertial_coeffs k }
 {
@@ -116,11 +91,11 @@ fn inertial_coeffs(k: InertialCoefficients) -> [f64; 22]
     ]
 }
 
+#[tactic(auto, unfolding(crate::specs::Pack::magnetic_coeffs, crate::specs::Marks::flag))]
 fn magnetic_coeffs(k: MagneticCoefficients) -> [f64; 9]
     ensures { result ≡ magnetic_coeffs k }
 {
-    let lp = k.mag_norm_dip_lp;
-    match lp {
+    match k.mag_norm_dip_lp {
         None => [k.mag_ts, k.k_mag, k.k_mag_ref, 0.0, 0.0, 0.0, 0.0, 0.0, 0.0],
         Some(c) => {
             [
@@ -138,6 +113,7 @@ fn magnetic_coeffs(k: MagneticCoefficients) -> [f64; 9]
     }
 }
 
+#[tactic(auto, unfolding(crate::specs::Pack::inclination))]
 fn inclination(s: Inclination) -> [f64; 12]
     ensures { result ≡ inclination s }
 {
@@ -157,6 +133,7 @@ fn inclination(s: Inclination) -> [f64; 12]
     ]
 }
 
+#[tactic(auto, unfolding(crate::specs::Pack::bias))]
 fn bias(s: Bias) -> [f64; 12]
     ensures { result ≡ bias s }
 {
@@ -176,6 +153,7 @@ fn bias(s: Bias) -> [f64; 12]
     ]
 }
 
+#[tactic(auto, unfolding(crate::specs::Pack::rest))]
 fn rest(s: Rest) -> [f64; 10]
     ensures { result ≡ rest s }
 {
@@ -193,6 +171,7 @@ fn rest(s: Rest) -> [f64; 10]
     ]
 }
 
+#[tactic(auto, unfolding(crate::specs::Pack::magnetic_state))]
 fn magnetic_state(s: MagneticState) -> [f64; 14]
     ensures { result ≡ magnetic_state s }
 {
@@ -215,93 +194,67 @@ fn magnetic_state(s: MagneticState) -> [f64; 14]
 }
 
 // Writes xs over the image, from the place at on.
-fn put(image: &mut [f64], at: usize, xs: &[f64])
-    requires { at + length xs.now ≤ length image.old }
-    ensures { (image.new ≡ put xs.now image.old at) × (length image.new ≡ length image.old) }
+fn put(image: &mut [f64; SIZE], at: usize, xs: &[f64])
+    requires { at + length xs.now ≤ SIZE }
+    ensures { image.new ≡ put xs.now image.old at }
 {
-    let mut i = 0;
-    while i < xs.len() {
-        image[at + i] = xs[i];
-        i += 1;
+    image[at..at + xs.len()].copy_from_slice(xs);
+}
+
+fn put_channels<const N: usize>(image: &mut [f64; SIZE], at: usize, c: [Channel; N])
+    requires { at + 3 * N ≤ SIZE }
+    ensures { image.new ≡ put (channels N c.entry) image.old at }
+{
+    for (i, x) in c.iter().enumerate() {
+        put(image, at + 3 * i, &triple(*x));
     }
 }
 
-fn put_params(image: &mut [f64], i: InertialParams, m: MagneticParams)
-    requires { length image.old ≡ SIZE }
-    ensures { image.new ≡ put (all_params i m) image.old 0 }
-{
-    let inertial = inertial_params(i);
-    let magnetic = magnetic_params(m);
-    put(image, 0, &inertial);
-    put(image, 14, &magnetic);
-}
-
-fn put_coeffs(image: &mut [f64], i: InertialCoefficients, m: MagneticCoefficients)
-    requires { length image.old ≡ SIZE }
+fn put_coeffs(image: &mut [f64; SIZE], i: InertialCoefficients, m: MagneticCoefficients)
     ensures { image.new ≡ put (all_coeffs i m) image.old 25 }
 {
-    let inertial = inertial_coeffs(i);
-    let magnetic = magnetic_coeffs(m);
-    put(image, 25, &inertial);
-    put(image, 47, &magnetic);
+    put(image, 25, &inertial_coeffs(i));
+    put(image, 47, &magnetic_coeffs(m));
 }
 
-fn put_inclination(image: &mut [f64], s: Inclination)
-    requires { length image.old ≡ SIZE }
+fn put_inclination(image: &mut [f64; SIZE], s: Inclination)
     ensures { image.new ≡ put (all_inclination s) image.old 56 }
 {
-    let numbers = inclination(s);
-    let banks = s.acc_lp_state;
-    let acc_lp = channels3(banks);
-    put(image, 56, &numbers);
-    put(image, 68, &acc_lp);
+    put(image, 56, &inclination(s));
+    put_channels(image, 68, s.acc_lp_state);
 }
 
-fn put_bias(image: &mut [f64], s: Bias)
-    requires { length image.old ≡ SIZE }
+fn put_bias(image: &mut [f64; SIZE], s: Bias)
     ensures { image.new ≡ put (all_bias s) image.old 77 }
 {
-    let numbers = bias(s);
-    let nine = s.motion_bias_est_rlp_state;
-    let two = s.motion_bias_est_bias_lp_state;
-    let rlp = channels9(nine);
-    let bias_lp = channels2(two);
-    put(image, 77, &numbers);
-    put(image, 89, &rlp);
-    put(image, 116, &bias_lp);
+    put(image, 77, &bias(s));
+    put_channels(image, 89, s.motion_bias_est_rlp_state);
+    put_channels(image, 116, s.motion_bias_est_bias_lp_state);
 }
 
-fn put_rest(image: &mut [f64], s: Rest)
-    requires { length image.old ≡ SIZE }
+fn put_rest(image: &mut [f64; SIZE], s: Rest)
     ensures { image.new ≡ put (all_rest s) image.old 122 }
 {
-    let numbers = rest(s);
-    let of_gyr = s.rest_gyr_lp_state;
-    let of_acc = s.rest_acc_lp_state;
-    let gyr_lp = channels3(of_gyr);
-    let acc_lp = channels3(of_acc);
-    put(image, 122, &numbers);
-    put(image, 132, &gyr_lp);
-    put(image, 141, &acc_lp);
+    put(image, 122, &rest(s));
+    put_channels(image, 132, s.rest_gyr_lp_state);
+    put_channels(image, 141, s.rest_acc_lp_state);
 }
 
-fn put_magnetic_state(image: &mut [f64], s: MagneticState)
-    requires { length image.old ≡ SIZE }
+fn put_magnetic_state(image: &mut [f64; SIZE], s: MagneticState)
     ensures { image.new ≡ put (all_magnetic_state s) image.old 150 }
 {
-    let numbers = magnetic_state(s);
-    let field = s.field;
-    let two = field.mag_norm_dip_lp_state;
-    let norm_dip_lp = channels2(two);
-    put(image, 150, &numbers);
-    put(image, 164, &norm_dip_lp);
+    put(image, 150, &magnetic_state(s));
+    put_channels(image, 164, s.field.mag_norm_dip_lp_state);
 }
 
-fn put_all(image: &mut [f64], f: VQF)
-    requires { length image.old ≡ SIZE }
+pub(crate) fn put_all(image: &mut [f64; SIZE], f: VQF)
     ensures { image.new ≡ pack f }
 {
-    put_params(image, f.inertial.params, f.magnetic.params);
+    let params = Params {
+        inertial: f.inertial.params,
+        magnetic: f.magnetic.params,
+    };
+    put(image, 0, &settings(params));
     put_coeffs(image, f.inertial.coeffs, f.magnetic.coeffs);
     put_inclination(image, f.inertial.state.inclination);
     put_bias(image, f.inertial.state.bias);
@@ -309,14 +262,13 @@ fn put_all(image: &mut [f64], f: VQF)
     put_magnetic_state(image, f.magnetic.state);
 }
 
-// Writes the filter, where the image has SIZE numbers, and says whether it has.
-pub fn pack(image: &mut [f64], f: VQF) -> bool
-    ensures { (result ≡ fits image.old) × (image.new ≡ packed image.old f) }
+// Writes the filter, where the image has SIZE numbers; any other is left as it was.
+pub fn pack(image: &mut [f64], f: VQF) -> Result<(), WrongLength>
+    ensures { (result ≡ written image.old) × (image.new ≡ packed image.old f) }
 {
-    if image.len() == SIZE {
-        put_all(image, f);
-        true
-    } else {
-        false
-    }
+    let Some(numbers) = image.as_mut_array() else {
+        return Err(WrongLength);
+    };
+    put_all(numbers, f);
+    Ok(())
 }

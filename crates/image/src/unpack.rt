@@ -1,7 +1,7 @@
 // An image into a filter, group by group.
-ghost use Rattle.std.specs.Prelude.{◌≡◌, ◌+◌, ◌≤◌, length};
-ghost use Rattle.image.specs.Unpack.{vector, quaternion, matrix, coeffs, smoothing, channel_at, channels2, channels3, channels9, inertial_params, magnetic_params, read_params, inertial_coeffs, magnetic_coeffs, inclination, bias, rest, magnetic_state, inertial, magnetic};
-ghost use Rattle.image.specs.Image.{SIZE, SETTINGS, unpack, params};
+ghost use Rattle.std.specs.Prelude.{◌≡◌, ◌+◌, ◌*◌, ◌≤◌, take};
+ghost use Rattle.image.specs.Unpack.{vector, quaternion, matrix, coeffs, smoothing, channel_at, channels, inertial_params, magnetic_params, read_params, inertial_coeffs, magnetic_coeffs, inclination, bias, rest, magnetic_state, inertial, magnetic, read};
+ghost use Rattle.image.specs.Image.{unpack, params};
 
 use crate::marks::{channel, on};
 use crate::{SETTINGS, SIZE};
@@ -14,22 +14,22 @@ use magnetic::{Magnetic, MagneticCoefficients, MagneticParams, MagneticState};
 use tilt::{Deviations, Inclination, Rest, RestParams};
 use vqf::{Params, VQF};
 
-fn vector(s: &[f64], at: usize) -> Vector
-    requires { at + 3 ≤ length s.now }
+fn vector(s: &[f64; SIZE], at: usize) -> Vector
+    requires { at + 3 ≤ SIZE }
     ensures { result ≡ vector s.now at }
 {
     Vector(s[at], s[at + 1], s[at + 2])
 }
 
-fn quaternion(s: &[f64], at: usize) -> Quaternion
-    requires { at + 4 ≤ length s.now }
+fn quaternion(s: &[f64; SIZE], at: usize) -> Quaternion
+    requires { at + 4 ≤ SIZE }
     ensures { result ≡ quaternion s.now at }
 {
     Quaternion(s[at], s[at + 1], s[at + 2], s[at + 3])
 }
 
-fn matrix(s: &[f64], at: usize) -> Matrix
-    requires { at + 9 ≤ length s.now }
+fn matrix(s: &[f64; SIZE], at: usize) -> Matrix
+    requires { at + 9 ≤ SIZE }
     ensures { result ≡ matrix s.now at }
 {
     Matrix {
@@ -45,8 +45,8 @@ fn matrix(s: &[f64], at: usize) -> Matrix
     }
 }
 
-fn coeffs(s: &[f64], at: usize) -> Coeffs
-    requires { at + 5 ≤ length s.now }
+fn coeffs(s: &[f64; SIZE], at: usize) -> Coeffs
+    requires { at + 5 ≤ SIZE }
     ensures { result ≡ coeffs s.now at }
 {
     Coeffs {
@@ -58,8 +58,8 @@ fn coeffs(s: &[f64], at: usize) -> Coeffs
     }
 }
 
-fn smoothing(s: &[f64], at: usize) -> Option<Coeffs>
-    requires { at + 6 ≤ length s.now }
+fn smoothing(s: &[f64; SIZE], at: usize) -> Option<Coeffs>
+    requires { at + 6 ≤ SIZE }
     ensures { result ≡ smoothing s.now at }
 {
     if on(s[at]) {
@@ -69,50 +69,34 @@ fn smoothing(s: &[f64], at: usize) -> Option<Coeffs>
     }
 }
 
-fn channel_at(s: &[f64], at: usize) -> Channel
-    requires { at + 3 ≤ length s.now }
+fn channel_at(s: &[f64; SIZE], at: usize) -> Channel
+    requires { at + 3 ≤ SIZE }
     ensures { result ≡ channel_at s.now at }
 {
     channel(s[at], s[at + 1], s[at + 2])
 }
 
-fn channels2(s: &[f64], at: usize) -> [Channel; 2]
-    requires { at + 6 ≤ length s.now }
-    ensures { result ≡ channels2 s.now at }
+// The bank at a place.
+fn channels<const N: usize>(s: &[f64; SIZE], at: usize) -> [Channel; N]
+    requires { at + 3 * N ≤ SIZE }
+    ensures { result ≡ channels N s.now at }
 {
-    let c0 = channel_at(s, at);
-    let c1 = channel_at(s, at + 3);
-    [c0, c1]
+    let mut bank = [Channel::FRESH; N];
+    for (i, c) in bank.iter_mut().enumerate() {
+        *c = channel_at(s, at + 3 * i);
+    }
+    bank
 }
 
-fn channels3(s: &[f64], at: usize) -> [Channel; 3]
-    requires { at + 9 ≤ length s.now }
-    ensures { result ≡ channels3 s.now at }
+// The settings, with which an image begins.
+fn settings(s: &[f64; SIZE]) -> &[f64; SETTINGS]
+    ensures { result.now ≡ take SETTINGS s.now }
 {
-    let c0 = channel_at(s, at);
-    let c1 = channel_at(s, at + 3);
-    let c2 = channel_at(s, at + 6);
-    [c0, c1, c2]
+    s.first_chunk().unwrap()
 }
 
-fn channels9(s: &[f64], at: usize) -> [Channel; 9]
-    requires { at + 27 ≤ length s.now }
-    ensures { result ≡ channels9 s.now at }
-{
-    let c0 = channel_at(s, at);
-    let c1 = channel_at(s, at + 3);
-    let c2 = channel_at(s, at + 6);
-    let c3 = channel_at(s, at + 9);
-    let c4 = channel_at(s, at + 12);
-    let c5 = channel_at(s, at + 15);
-    let c6 = channel_at(s, at + 18);
-    let c7 = channel_at(s, at + 21);
-    let c8 = channel_at(s, at + 24);
-    [c0, c1, c2, c3, c4, c5, c6, c7, c8]
-}
-
-fn inertial_params(s: &[f64]) -> InertialParams
-    requires { SETTINGS ≤ length s.now }
+#[tactic(auto, unfolding(crate::specs::Unpack::inertial_params))]
+fn inertial_params(s: &[f64; SETTINGS]) -> InertialParams
     ensures { result ≡ inertial_params s.now }
 {
     let rest = RestParams {
@@ -139,8 +123,8 @@ fn inertial_params(s: &[f64]) -> InertialParams
     }
 }
 
-fn magnetic_params(s: &[f64]) -> MagneticParams
-    requires { SETTINGS ≤ length s.now }
+#[tactic(auto, unfolding(crate::specs::Unpack::magnetic_params))]
+fn magnetic_params(s: &[f64; SETTINGS]) -> MagneticParams
     ensures { result ≡ magnetic_params s.now }
 {
     MagneticParams {
@@ -158,13 +142,10 @@ fn magnetic_params(s: &[f64]) -> MagneticParams
     }
 }
 
-fn inertial_coeffs(s: &[f64]) -> InertialCoefficients
-    requires { SIZE ≤ length s.now }
+#[tactic(auto, unfolding(crate::specs::Unpack::inertial_coeffs))]
+fn inertial_coeffs(s: &[f64; SIZE]) -> InertialCoefficients
     ensures { result ≡ inertial_coeffs s.now }
 {
-    let acc_lp = coeffs(s, 27);
-    let rest_gyr_lp = coeffs(s, 32);
-    let rest_acc_lp = coeffs(s, 37);
     let bias = BiasCoefficients {
         bias_p0: s[42],
         bias_v: s[43],
@@ -175,81 +156,67 @@ fn inertial_coeffs(s: &[f64]) -> InertialCoefficients
     InertialCoefficients {
         gyr_ts: s[25],
         acc_ts: s[26],
-        acc_lp,
-        rest_gyr_lp,
-        rest_acc_lp,
+        acc_lp: coeffs(s, 27),
+        rest_gyr_lp: coeffs(s, 32),
+        rest_acc_lp: coeffs(s, 37),
         bias,
     }
 }
 
-fn magnetic_coeffs(s: &[f64]) -> MagneticCoefficients
-    requires { SIZE ≤ length s.now }
+#[tactic(auto, unfolding(crate::specs::Unpack::magnetic_coeffs))]
+fn magnetic_coeffs(s: &[f64; SIZE]) -> MagneticCoefficients
     ensures { result ≡ magnetic_coeffs s.now }
 {
-    let mag_norm_dip_lp = smoothing(s, 50);
     MagneticCoefficients {
         mag_ts: s[47],
         k_mag: s[48],
         k_mag_ref: s[49],
-        mag_norm_dip_lp,
+        mag_norm_dip_lp: smoothing(s, 50),
     }
 }
 
-fn inclination(s: &[f64]) -> Inclination
-    requires { SIZE ≤ length s.now }
+#[tactic(auto, unfolding(crate::specs::Unpack::inclination))]
+fn inclination(s: &[f64; SIZE]) -> Inclination
     ensures { result ≡ inclination s.now }
 {
-    let gyr_quat = quaternion(s, 56);
-    let acc_quat = quaternion(s, 60);
-    let last_acc_lp = vector(s, 64);
-    let acc_lp_state = channels3(s, 68);
     Inclination {
-        gyr_quat,
-        acc_quat,
-        last_acc_lp,
-        acc_lp_state,
+        gyr_quat: quaternion(s, 56),
+        acc_quat: quaternion(s, 60),
+        last_acc_lp: vector(s, 64),
+        acc_lp_state: channels(s, 68),
         last_acc_corr_angular_rate: s[67],
     }
 }
 
-fn bias(s: &[f64]) -> Bias
-    requires { SIZE ≤ length s.now }
+#[tactic(auto, unfolding(crate::specs::Unpack::bias))]
+fn bias(s: &[f64; SIZE]) -> Bias
     ensures { result ≡ bias s.now }
 {
-    let bias = vector(s, 77);
-    let bias_p = matrix(s, 80);
-    let motion_bias_est_rlp_state = channels9(s, 89);
-    let motion_bias_est_bias_lp_state = channels2(s, 116);
     Bias {
-        bias,
-        bias_p,
-        motion_bias_est_rlp_state,
-        motion_bias_est_bias_lp_state,
+        bias: vector(s, 77),
+        bias_p: matrix(s, 80),
+        motion_bias_est_rlp_state: channels(s, 89),
+        motion_bias_est_bias_lp_state: channels(s, 116),
     }
 }
 
-fn rest(s: &[f64]) -> Rest
-    requires { SIZE ≤ length s.now }
+#[tactic(auto, unfolding(crate::specs::Unpack::rest))]
+fn rest(s: &[f64; SIZE]) -> Rest
     ensures { result ≡ rest s.now }
 {
-    let rest_last_squared_deviations = Deviations(s[123], s[124]);
-    let rest_last_gyr_lp = vector(s, 126);
-    let rest_gyr_lp_state = channels3(s, 132);
-    let rest_last_acc_lp = vector(s, 129);
-    let rest_acc_lp_state = channels3(s, 141);
     Rest {
         rest_detected: on(s[122]),
-        rest_last_squared_deviations,
+        rest_last_squared_deviations: Deviations(s[123], s[124]),
         rest_t: s[125],
-        rest_last_gyr_lp,
-        rest_gyr_lp_state,
-        rest_last_acc_lp,
-        rest_acc_lp_state,
+        rest_last_gyr_lp: vector(s, 126),
+        rest_gyr_lp_state: channels(s, 132),
+        rest_last_acc_lp: vector(s, 129),
+        rest_acc_lp_state: channels(s, 141),
     }
 }
 
-fn magnetic_state(s: &[f64]) -> MagneticState
-    requires { SIZE ≤ length s.now }
+#[tactic(auto, unfolding(crate::specs::Unpack::magnetic_state))]
+fn magnetic_state(s: &[f64; SIZE]) -> MagneticState
     ensures { result ≡ magnetic_state s.now }
 {
     let heading = Heading {
@@ -258,8 +225,6 @@ fn magnetic_state(s: &[f64]) -> MagneticState
         last_mag_dis_angle: s[152],
         last_mag_corr_angular_rate: s[153],
     };
-    let mag_norm_dip = NormDip(s[162], s[163]);
-    let mag_norm_dip_lp_state = channels2(s, 164);
     let field = Field {
         mag_dist_detected: on(s[154]),
         mag_ref_norm: s[155],
@@ -269,77 +234,73 @@ fn magnetic_state(s: &[f64]) -> MagneticState
         mag_candidate_norm: s[159],
         mag_candidate_dip: s[160],
         mag_candidate_t: s[161],
-        mag_norm_dip,
-        mag_norm_dip_lp_state,
+        mag_norm_dip: NormDip(s[162], s[163]),
+        mag_norm_dip_lp_state: channels(s, 164),
     };
     MagneticState { heading, field }
 }
 
-fn read_params(s: &[f64]) -> Params
-    requires { SETTINGS ≤ length s.now }
+fn read_params(s: &[f64; SETTINGS]) -> Params
     ensures { result ≡ read_params s.now }
 {
-    let inertial = inertial_params(s);
-    let magnetic = magnetic_params(s);
-    Params { inertial, magnetic }
-}
-
-fn read_inertial(s: &[f64]) -> Inertial
-    requires { SIZE ≤ length s.now }
-    ensures { result ≡ inertial s.now }
-{
-    let params = inertial_params(s);
-    let coeffs = inertial_coeffs(s);
-    let inclination = inclination(s);
-    let bias = bias(s);
-    let rest = rest(s);
-    let state = InertialState {
-        inclination,
-        bias,
-        rest,
-    };
-    Inertial {
-        params,
-        coeffs,
-        state,
+    Params {
+        inertial: inertial_params(s),
+        magnetic: magnetic_params(s),
     }
 }
 
-fn read_magnetic(s: &[f64]) -> Magnetic
-    requires { SIZE ≤ length s.now }
+fn read_inertial(s: &[f64; SIZE]) -> Inertial
+    ensures { result ≡ inertial s.now }
+{
+    Inertial {
+        params: inertial_params(settings(s)),
+        coeffs: inertial_coeffs(s),
+        state: InertialState {
+            inclination: inclination(s),
+            bias: bias(s),
+            rest: rest(s),
+        },
+    }
+}
+
+fn read_magnetic(s: &[f64; SIZE]) -> Magnetic
     ensures { result ≡ magnetic s.now }
 {
-    let params = magnetic_params(s);
-    let coeffs = magnetic_coeffs(s);
-    let state = magnetic_state(s);
     Magnetic {
-        params,
-        coeffs,
-        state,
+        params: magnetic_params(settings(s)),
+        coeffs: magnetic_coeffs(s),
+        state: magnetic_state(s),
+    }
+}
+
+pub(crate) fn read(s: &[f64; SIZE]) -> VQF
+    ensures { result ≡ read s.now }
+{
+    VQF {
+        inertial: read_inertial(s),
+        magnetic: read_magnetic(s),
     }
 }
 
 // The filter of an image of SIZE numbers; of any other, the fresh house filter.
+#[tactic(auto, unfolding(crate::specs::Image::unpack))]
 pub fn unpack(image: &[f64]) -> VQF
     ensures { result ≡ unpack image.now }
 {
-    if image.len() == SIZE {
-        let inertial = read_inertial(image);
-        let magnetic = read_magnetic(image);
-        VQF { inertial, magnetic }
-    } else {
-        VQF::fresh()
+    match image.as_array() {
+        Some(numbers) => read(numbers),
+        None => VQF::fresh(),
     }
 }
 
 // The settings that SETTINGS numbers give, in the order in which an image has them; any other number of
 // them gives the house settings.
+#[tactic(auto, unfolding(crate::specs::Image::params))]
 pub fn params(settings: &[f64]) -> Params
     ensures { result ≡ params settings.now }
 {
-    if settings.len() == SETTINGS {
-        read_params(settings)
-    } else {
-        Params::house()
+    match settings.as_array() {
+        Some(numbers) => read_params(numbers),
+        None => Params::house(),
     }
 }

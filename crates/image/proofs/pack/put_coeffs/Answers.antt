@@ -5,5 +5,5 @@ use Rattle.image.proofs.pack.put_coeffs.Goals as goal
 
 pub returns : goal.returns
 unfolding all_coeffs inertial_coeffs
-returns c = simp (c.put-2.ensures.0, c.put.ensures.0, c.magnetic_coeffs-magnetic.ensures, c.inertial_coeffs-inertial.ensures)
+returns c = simp (c.put-2.ensures, c.put.ensures, c.magnetic_coeffs.ensures, c.inertial_coeffs.ensures)
     (put_put _ _ _ 25)

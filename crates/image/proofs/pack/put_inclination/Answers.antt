@@ -5,5 +5,5 @@ use Rattle.image.proofs.pack.put_inclination.Goals as goal
 
 pub returns : goal.returns
 unfolding all_inclination inclination
-returns c = simp (c.put-2.ensures.0, c.put.ensures.0, c.channels3-acc_lp.ensures, c.inclination-numbers.ensures)
+returns c = simp (c.put_channels.ensures, c.put.ensures, c.inclination.ensures)
     (put_put _ _ _ 56)

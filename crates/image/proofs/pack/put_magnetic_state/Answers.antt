@@ -5,5 +5,5 @@ use Rattle.image.proofs.pack.put_magnetic_state.Goals as goal
 
 pub returns : goal.returns
 unfolding all_magnetic_state magnetic_state
-returns c = simp (c.put-2.ensures.0, c.put.ensures.0, c.channels2-norm_dip_lp.ensures, c.magnetic_state-numbers.ensures)
+returns c = simp (c.put_channels.ensures, c.put.ensures, c.magnetic_state.ensures)
     (put_put _ _ _ 150)
