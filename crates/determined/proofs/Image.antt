@@ -9,6 +9,7 @@ image = record {
   marked = λ κs a z z' e e'. equal;
   on = λ κs a z z' e e'. equal;
   pack = λ κs a z z' e e'. lent;
+  settings = λ κs a z z' e e'. equal;
   round_trip = λ κs a z z' e e'. equal;
   params = λ κs a z z' e e'. equal;
   unpack = λ κs a z z' e e'. equal;

@@ -10,13 +10,12 @@ pub const WRONG_LENGTH: u32 = 100;
 
 // Writes the filter that a call leaves, and gives the call's number; where the image has another
 // length, nothing is written.
+#[tactic(auto, unfolding(crate::specs::Calls::kept))]
 pub fn keep(image: &mut [f64], u: Updated) -> u32
     ensures { told result image.new ≡ kept image.old (told_of u) }
 {
-    let answer = u.answer;
-    if image::pack::pack(image, u.filter) {
-        answer.number()
-    } else {
-        WRONG_LENGTH
+    match image::pack::pack(image, u.filter) {
+        Ok(()) => u.answer.number(),
+        Err(_) => WRONG_LENGTH,
     }
 }
