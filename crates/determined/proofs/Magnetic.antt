@@ -1,6 +1,6 @@
 -- Both results are the definition's.
 use Rattle.determined.specs.Magnetic.{Magnetic}
-use Rattle.determined.proofs.OneResult.{magnetic_call, equal}
+use Rattle.determined.proofs.OneResult.{call, equal}
 
 pub magnetic : Magnetic
 magnetic = record {
@@ -15,9 +15,9 @@ magnetic = record {
   Magnetic_new = λ κs a z z' e e'. equal;
   Magnetic_reset_state = λ κs a z z' e e'. equal;
   Magnetic_restarted = λ κs a z z' e e'. equal;
-  Magnetic_set_mag_ref = λ κs a z z' e e'. magnetic_call;
-  Magnetic_set_tau_mag = λ κs a z z' e e'. magnetic_call;
-  Magnetic_update_mag = λ κs a z z' e e'. magnetic_call;
+  Magnetic_set_mag_ref = λ κs a z z' e e'. call;
+  Magnetic_set_tau_mag = λ κs a z z' e e'. call;
+  Magnetic_update_mag = λ κs a z z' e e'. call;
   MagneticParams_house = λ κs a z z' e e'. equal;
   MagneticState_fresh = λ κs a z z' e e'. equal;
 }

@@ -1,19 +1,12 @@
 -- Both results are the definition's; and a number tells its answer, so that the calls of a filter lose nothing where they are told.
 use Rattle.floats.specs.Prelude.{◌≡◌, sym, ap, ◌∙◌, ℕ}
-use Rattle.limits.specs.Answers.{number, Told, told}
+use Rattle.limits.specs.Answers.{number, Told, told, told_of}
 use Rattle.limits.proofs.Answers.{number_tells}
 use Rattle.limits.specs.declared.answer.Answer.{Answer}
-use Rattle.limits.specs.declared.updated.Updated.{Updated as AnyUpdated}
+use Rattle.limits.specs.declared.updated.Updated.{Updated}
 use Rattle.tilt.specs.Gyr.{ToldGyr, after_gyr}
 use Rattle.tilt.specs.declared.gyr.AfterGyr.{AfterGyr}
-use Rattle.inertial.specs.Told.{told_of as inertial_told}
-use Rattle.inertial.specs.declared.types.Inertial.{Inertial}
-use Rattle.inertial.specs.declared.types.Updated.{Updated as InertialUpdated}
-use Rattle.magnetic.specs.Told.{told_of as magnetic_told}
-use Rattle.magnetic.specs.declared.types.Magnetic.{Magnetic}
-use Rattle.vqf.specs.Told.{told_of, ToldAll, all_told}
-use Rattle.vqf.specs.declared.types.VQF.{VQF}
-use Rattle.vqf.specs.declared.types.Updated.{Updated}
+use Rattle.vqf.specs.Told.{ToldAll, all_told}
 use Rattle.vqf.specs.declared.types.UpdatedAll.{UpdatedAll}
 
 pub equal : {A : Type 0} {d r s : A} → r ≡ d → s ≡ d → r ≡ s
@@ -24,18 +17,8 @@ gyr_call {d} {r} {s} p q =
     let e : after_gyr r ≡ after_gyr s = p ∙ sym q in
     λ i. record { answer = number_tells r.answer s.answer (λ j. (e j).number) i; rest = (e i).rest; quat = (e i).quat }
 
-pub inertial_call : {d : Told Inertial} {r s : InertialUpdated} → inertial_told r ≡ d → inertial_told s ≡ d → r ≡ s
-inertial_call {d} {r} {s} p q =
-    let e : inertial_told r ≡ inertial_told s = p ∙ sym q in
-    λ i. record { answer = number_tells r.answer s.answer (λ j. (e j).number) i; inertial = (e i).left }
-
-pub magnetic_call : {d : Told Magnetic} {r s : AnyUpdated Magnetic} → magnetic_told r ≡ d → magnetic_told s ≡ d → r ≡ s
-magnetic_call {d} {r} {s} p q =
-    let e : magnetic_told r ≡ magnetic_told s = p ∙ sym q in
-    λ i. record { answer = number_tells r.answer s.answer (λ j. (e j).number) i; filter = (e i).left }
-
-pub call : {d : Told VQF} {r s : Updated} → told_of r ≡ d → told_of s ≡ d → r ≡ s
-call {d} {r} {s} p q =
+pub call : {A : Type 0} {d : Told A} {r s : Updated A} → told_of r ≡ d → told_of s ≡ d → r ≡ s
+call {A} {d} {r} {s} p q =
     let e : told_of r ≡ told_of s = p ∙ sym q in
     λ i. record { answer = number_tells r.answer s.answer (λ j. (e j).number) i; filter = (e i).left }
 

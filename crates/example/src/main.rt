@@ -8,7 +8,7 @@ mod output;
 
 use algebra::{Quaternion, Vector};
 use std::io;
-use vqf::{Interval, Settings, VQF};
+use vqf::VQF;
 
 fn points_down(f: VQF) -> bool {
     let up = f.quat_6d().rotate(Vector(0.0, 0.0, 1.0));
@@ -16,7 +16,7 @@ fn points_down(f: VQF) -> bool {
 }
 
 fn at_the_trolley() -> VQF {
-    let f = VQF::new(0.01, Interval::Absent, Interval::Absent, Settings::Absent).filter;
+    let f = VQF::new(0.01, None, None, None).filter;
     let g = f.update_gyr(Vector(0.01, 0.0, 0.0)).filter;
     g.update_acc(Vector(0.0, 1.0, -9.7)).filter
 }

@@ -1,5 +1,5 @@
 -- Each call asks its questions in the table's order, and its own tests say what the table asks (`gyr_tested`, `acc_tested`, `tau_acc_tested`).
-use Rattle.floats.specs.Prelude.{◌≡◌, refl, ap, ap₂, ◌∙◌, Bool, true, false, not, cond, ◌&&◌, ◌||◌, ℕ, T, Float, Result, Ok, Err, Format, eq, le}
+use Rattle.floats.specs.Prelude.{◌≡◌, refl, ap, ap₂, ◌∙◌, Bool, true, false, not, cond, ◌&&◌, ◌||◌, ℕ, T, Float, Option, Result, Ok, Err, Format, eq, le}
 use lib.Ieee.Scale as scale
 use Rattle.floats.specs.Notation.{zero}
 use Rattle.floats.specs.Tests.{is_true}
@@ -14,6 +14,7 @@ use Rattle.limits.specs.Table.{first}
 use Rattle.limits.specs.Limits.{gyr_taken, acc_taken, interval_taken, zero_sample, tau_taken, threshold_taken}
 use Rattle.limits.proofs.Answers.{Says, done, refused, if, only_if, setting, then}
 use Rattle.limits.proofs.Table.{exactly}
+use Rattle.limits.specs.declared.updated.Tried.{Tried}
 use Rattle.tilt.specs.Scalars.{radians}
 use Rattle.inertial.specs.Told.{if_finite}
 use Rattle.inertial.specs.Gyr.{update_gyr_with_ts}
@@ -24,7 +25,7 @@ use Rattle.inertial.specs.Setters.{with_params, with_rest_params, with_threshold
 use Rattle.inertial.specs.AllFinite.{all_finite}
 use Rattle.inertial.specs.Calls as calls
 use Rattle.inertial.specs.Answers.{gyr_rest_of, quat_of, after_gyr, acc_rest_of, inclination_of, bias_tried, bias_of, after_acc, at_tau_acc, after_tau_acc, measurement, to_invert, no_inverse, tau_acc_faults, faults, Answers}
-use Rattle.inertial.specs.Types.{Inertial, Smooth, Measurement, TriedBias, Sigma}
+use Rattle.inertial.specs.Types.{Inertial, Smooth, Measurement, Bias}
 use Rattle.inertial.proofs.Steps.{gyr_fine, acc_fine, gyr_asked, acc_asked}
 use Rattle.inertial.proofs.Tested.{gyr_tested, acc_tested, fits, tau_acc_tested}
 
@@ -64,7 +65,7 @@ module _ (w : Format) where
       go true false false = refl
       go false small finite = refl
 
-  only_on : (on measured none : Bool) (t u : Result TriedBias NoInverse) → singular t ≡ (measured && none) → singular u ≡ false → singular (cond on t u) ≡ (on && measured && none)
+  only_on : (on measured none : Bool) (t u : Result (Tried Bias) NoInverse) → singular t ≡ (measured && none) → singular u ≡ false → singular (cond on t u) ≡ (on && measured && none)
   only_on true measured none t u e z = e
   only_on false measured none t u e z = z
 
@@ -79,7 +80,7 @@ module _ (w : Format) where
       let m = measurement w f v in
       let x = to_invert w f v in
       only_on (f.params.bias.motion_bias_est_enabled || f.params.rest.rest_bias_est_enabled) (le (zero w) m.w.0) (unfit (determinant x (adjugate x)))
-      (updated_bias s (estimated w f.state.bias.bias p m c)) (Ok (record { finite = true; bias = f.state.bias }))
+      (updated_bias s (estimated w f.state.bias.bias p m c)) (Ok (record { finite = true; value = f.state.bias }))
       (estimated_singular s f.state.bias.bias p m c) refl
 
   abbrev acc_number : Vector → Bool → Bool → ℕ
@@ -122,7 +123,7 @@ module _ (w : Format) where
   unfolding setters.set_rest_detection_thresholds
   thresholds_says f g a = setting (threshold_taken w g && threshold_taken w a) _ f
 
-  bias_says : (f : Inertial) (b : Vector) (s : Sigma)
+  bias_says : (f : Inertial) (b : Vector) (s : Option Float)
       → Says (first (faults w f (calls.own (calls.set_bias_estimate b s)))) (with_bias f (with_estimate w f.state.bias b s)) f (setters.set_bias_estimate w f b s)
   unfolding setters.set_bias_estimate
   bias_says f b s = setting (setters.bias_taken w f.params.rest.bias_clip b && setters.sigma_or_none_taken w s) _ f

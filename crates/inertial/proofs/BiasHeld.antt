@@ -13,6 +13,7 @@ use Rattle.algebra.specs.declared.vector.Vector.{Vector}
 use Rattle.algebra.specs.declared.matrix.Matrix.{Matrix}
 use Rattle.algebra.specs.declared.matrix.NoInverse.{NoInverse}
 use Rattle.limits.specs.Limits.{all_within, threshold_taken}
+use Rattle.limits.specs.declared.updated.Tried.{Tried}
 use Rattle.tilt.specs.Scalars.{radians}
 use Rattle.inertial.specs.Acc.{left}
 use Rattle.inertial.specs.Kalman.{finite_bias, updated_bias, rotation, smoothed, measured, widened, innovation, by_inverse, estimated, bias_step}
@@ -20,7 +21,7 @@ use Rattle.inertial.specs.Setup.{taken, fresh_state, new}
 use Rattle.inertial.specs.Setters as setters
 use Rattle.inertial.specs.HowFar.{AllWithin}
 use Rattle.inertial.specs.Answers.{acc_rest_of, inclination_of, bias_of}
-use Rattle.inertial.specs.Types.{Bias, Inertial, InertialParams, Measurement, Smooth, Estimate, TriedBias}
+use Rattle.inertial.specs.Types.{Bias, Inertial, InertialParams, Measurement, Smooth, Estimate}
 use Rattle.inertial.proofs.Construction.{opened}
 use Rattle.inertial.proofs.BiasLimit.{limit_within}
 use Rattle.inertial.proofs.Invariants.{Invariant}
@@ -72,7 +73,7 @@ module _ (w : Format) where
     estimated_clipped bias p m k = keeps Clipped (le (zero w) m.w.0) _ _ (λ _. by_inverse_clipped bias p m (invert w (innovation w p m.r m.w))) (λ _. k)
 
     updated_clipped : (b : Bias) (s : Smooth) (k : Result Estimate NoInverse) → T (all_within c b.bias) → Clipped k
-        → let t = left b (updated_bias s k) in T t.finite → T (all_within c t.bias.bias)
+        → let t = left b (updated_bias s k) in T t.finite → T (all_within c t.value.bias)
     unfolding updated_bias finite_bias
     updated_clipped b s (Err e) k u t = k
     updated_clipped b s (Ok n) k u t = u (simp both at t).0.0.0
@@ -95,15 +96,15 @@ module _ (w : Format) where
     from : T (le nought (radians w f.params.rest.bias_clip))
     from = (limit_within w _ h.0).0
 
-    bias_held : (acc : Vector) → T (bias_of w f acc).finite → T (all_within (radians w f.params.rest.bias_clip) (bias_of w f acc).bias.bias)
+    bias_held : (acc : Vector) → T (bias_of w f acc).finite → T (all_within (radians w f.params.rest.bias_clip) (bias_of w f acc).value.bias)
     unfolding bias_step
     bias_held acc =
         let clip = radians w f.params.rest.bias_clip in
         let i = inclination_of w f acc in
         let b = f.state.bias in
         let s = smoothed w b (rotation w (times w i.inclination.acc_quat i.inclination.gyr_quat)) f.params.tau_acc f.coeffs.acc_ts f.coeffs.acc_lp in
-        let m = measured w s f.params f.coeffs (acc_rest_of w f acc).rest i.acc_earth b.bias in
-        keeps (λ (t : Result TriedBias NoInverse). T (left b t).finite → T (all_within clip (left b t).bias.bias)) (f.params.bias.motion_bias_est_enabled || f.params.rest.rest_bias_est_enabled) _ _
+        let m = measured w s f.params f.coeffs (acc_rest_of w f acc).value i.acc_earth b.bias in
+        keeps (λ (t : Result (Tried Bias) NoInverse). T (left b t).finite → T (all_within clip (left b t).value.bias)) (f.params.bias.motion_bias_est_enabled || f.params.rest.rest_bias_est_enabled) _ _
         (λ _. updated_clipped clip from b s _ h.1 (estimated_clipped clip from b.bias (widened w b.bias_p f.coeffs.bias) m h.1))
         (λ _. h.1)
 

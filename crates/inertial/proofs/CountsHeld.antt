@@ -9,6 +9,7 @@ use Rattle.filters.specs.Banks.{filter_vec2, filter_vec9, adapt2, adapt9}
 use Rattle.filters.specs.Counts.{all_from_zero}
 use Rattle.filters.proofs.Counts.{channels_from_zero, adapted_from_zero, fresh_from_zero}
 use Rattle.limits.specs.Limits.{shortest_interval}
+use Rattle.limits.specs.declared.updated.Tried.{Tried}
 use Rattle.tilt.proofs.CountsHeld.{InclinationHeld, RestHeld, rest_fresh, inclination_fresh, gyr_rest_held, acc_rest_held, inclined_held, adapted_inclination_held}
 use Rattle.inertial.specs.Acc.{left}
 use Rattle.inertial.specs.Kalman.{updated_bias, smoothed, bias_step}
@@ -16,7 +17,7 @@ use Rattle.inertial.specs.Setup.{taken, fresh_state, setup, new}
 use Rattle.inertial.specs.Setters as setters
 use Rattle.inertial.specs.Calls.{Call, run}
 use Rattle.inertial.specs.Answers.{bias_of}
-use Rattle.inertial.specs.Types.{Bias, Inertial, InertialParams, Estimate, Smooth, TriedBias}
+use Rattle.inertial.specs.Types.{Bias, Inertial, InertialParams, Estimate, Smooth}
 use Rattle.inertial.proofs.Construction.{opened}
 use Rattle.inertial.proofs.Invariants.{Invariant, reached}
 
@@ -28,7 +29,7 @@ least binary64 = tt
 abbrev BiasHeld : Bias → Type 0
 BiasHeld b = T (all_from_zero 9 b.motion_bias_est_rlp_state) × T (all_from_zero 2 b.motion_bias_est_bias_lp_state)
 
-updated_held : (b : Bias) (s : Smooth) (k : Result Estimate NoInverse) → T (all_from_zero 9 s.rlp_state) × T (all_from_zero 2 s.bias_lp_state) → BiasHeld b → BiasHeld (left b (updated_bias s k)).bias
+updated_held : (b : Bias) (s : Smooth) (k : Result Estimate NoInverse) → T (all_from_zero 9 s.rlp_state) × T (all_from_zero 2 s.bias_lp_state) → BiasHeld b → BiasHeld (left b (updated_bias s k)).value
 unfolding updated_bias
 updated_held b s (Err e) k h = h
 updated_held b s (Ok n) k h = k
@@ -44,14 +45,14 @@ module _ (w : Format) where
       (from, inclination_fresh w, (fresh_from_zero 9, fresh_from_zero 2), rest_fresh w)
 
   module _ (f : Inertial) (h : CountsHeld f) where
-    bias_held : (v : Vector) → BiasHeld (bias_of w f v).bias
+    bias_held : (v : Vector) → BiasHeld (bias_of w f v).value
     unfolding bias_step smoothed filter_vec9 filter_vec2
     bias_held v =
         let b = f.state.bias in
         let tau = f.params.tau_acc in
         let ts = f.coeffs.acc_ts in
         let k = f.coeffs.acc_lp in
-        keeps (λ (t : Result TriedBias NoInverse). BiasHeld (left b t).bias) (f.params.bias.motion_bias_est_enabled || f.params.rest.rest_bias_est_enabled) _ _
+        keeps (λ (t : Result (Tried Bias) NoInverse). BiasHeld (left b t).value) (f.params.bias.motion_bias_est_enabled || f.params.rest.rest_bias_est_enabled) _ _
         (λ _. updated_held b _ _ (channels_from_zero w 9 _ tau ts k b.motion_bias_est_rlp_state h.2.0, channels_from_zero w 2 _ tau ts k b.motion_bias_est_bias_lp_state h.2.1) h.2)
         h.2
 

@@ -1,5 +1,5 @@
 -- A call on the inertial half stores what it was given where that lies within finite limits, fresh groups, or what it tested to be finite.
-use Rattle.floats.specs.Prelude.{Bool, ◌&&◌, Bool_beq, subst, T, Float, Format, binary32, binary64, of_bits, le, neg, eq, finite}
+use Rattle.floats.specs.Prelude.{Bool, ◌&&◌, Bool_beq, subst, T, Float, Format, binary32, binary64, of_bits, le, neg, eq, finite, Option, None, Some}
 use Rattle.floats.specs.Notation.{zero, pi}
 use Rattle.floats.specs.Decimals.{hundred, half_turn}
 use Rattle.floats.specs.Tests.{both, keeps}
@@ -17,9 +17,8 @@ use Rattle.inertial.specs.Acc.{update_acc}
 use Rattle.inertial.specs.Setup.{fresh_state}
 use Rattle.inertial.specs.AllFinite.{finite_rest_params, finite_bias_params, finite_params, all_finite}
 use Rattle.inertial.specs.Setters.{with_rest_params, with_switches, with_thresholds, with_motion_switch, retuned, variance, bias_taken, sigma_or_none_taken, covariance_after, with_estimate, set_tau_acc, set_motion_bias_est_enabled, set_rest_bias_est_enabled, set_mag_dist_rejection_enabled, set_rest_detection_thresholds, set_bias_estimate, reset_state}
-use Rattle.inertial.specs.Types.{Inertial, InertialParams, Sigma}
+use Rattle.inertial.specs.Types.{Inertial, InertialParams}
 use Rattle.tilt.specs.declared.types.RestParams.{RestParams}
-use Rattle.inertial.specs.declared.setters.Sigma.TheVariants.{Absent, Given}
 use Rattle.inertial.proofs.Parts.{Parts, parts, StateParts, state_parts, whole_state, BiasParts, bias_parts, whole_bias, p0_finite, put_params, put_state, put_bias}
 use Rattle.inertial.proofs.Construction.{fresh_finite}
 use Rattle.inertial.proofs.BiasLimit.{limit_finite, ClipTaken}
@@ -75,10 +74,10 @@ module _ (w : Format) where
       let one : (x : Float) → Within x (neg limit) limit → T (finite x) = λ x. within_finite x _ _ (neg_finite limit l) l in
       simp both ((one _ h.0.0, one _ h.0.1), one _ h.1)
 
-  covariance_finite : (m : Matrix) (sigma : Sigma) → T (matrices.finite m) → T (sigma_or_none_taken w sigma) → T (matrices.finite (covariance_after w m sigma))
+  covariance_finite : (m : Matrix) (sigma : Option Float) → T (matrices.finite m) → T (sigma_or_none_taken w sigma) → T (matrices.finite (covariance_after w m sigma))
   unfolding sigma_or_none_taken fresh_state
-  covariance_finite m Absent h t = h
-  covariance_finite m (Given s) h t = (fresh_bias _ (variance_finite w s t)).covariance
+  covariance_finite m None h t = h
+  covariance_finite m (Some s) h t = (fresh_bias _ (variance_finite w s t)).covariance
 
   module _ (f : Inertial) (h : Fine f) where
     own : Parts f
@@ -122,7 +121,7 @@ module _ (w : Format) where
       put_params f h _ (with_rest f.params (with_thresholds f.params.rest g a) (own f h).params (simp both ((q.0.1.0.0, threshold_finite g u.0), threshold_finite a u.1))))
       h
 
-  pub set_bias_finite : (f : Inertial) (v : Vector) (sigma : Sigma) → ClipTaken w f → Fine f → Left (set_bias_estimate w f v sigma)
+  pub set_bias_finite : (f : Inertial) (v : Vector) (sigma : Option Float) → ClipTaken w f → Fine f → Left (set_bias_estimate w f v sigma)
   unfolding set_bias_estimate with_estimate
   set_bias_finite f v sigma k h =
       let clip = f.params.rest.bias_clip in

@@ -1,5 +1,5 @@
 -- A call leaves the half as it was, or stores what it would leave where its tests let it. So what is kept by all that is stored holds after any calls.
-use Rattle.floats.specs.Prelude.{Bool, ◌&&◌, List, [], ◌∷◌, T, Float, Format, eq}
+use Rattle.floats.specs.Prelude.{Bool, ◌&&◌, List, [], ◌∷◌, T, Float, Format, eq, Option}
 use Rattle.floats.specs.Tests.{keeps}
 use Rattle.algebra.specs.declared.vector.Vector.{Vector}
 use Rattle.limits.specs.Answers.{Told}
@@ -9,12 +9,12 @@ use Rattle.inertial.specs.Setup.{taken, new}
 use Rattle.inertial.specs.Setters as setters
 use Rattle.inertial.specs.Answers.{gyr_rest_of, quat_of, after_gyr, acc_rest_of, inclination_of, bias_of, after_acc, at_tau_acc}
 use Rattle.inertial.specs.Calls.{Call, own, update_gyr, update_acc, update_gyr_with_ts, set_tau_acc, set_motion_bias_est_enabled, set_rest_bias_est_enabled, set_mag_dist_rejection_enabled, set_rest_detection_thresholds, set_bias_estimate, reset_state, reply, run}
-use Rattle.inertial.specs.Types.{Inertial, InertialParams, Sigma}
+use Rattle.inertial.specs.Types.{Inertial, InertialParams}
 use Rattle.inertial.proofs.Steps as steps
 use Rattle.inertial.proofs.Tested.{fits}
 
 module _ (w : Format) (P : Inertial → Type 0) where
-  abbrev estimate_taken : Inertial → Vector → Sigma → Bool
+  abbrev estimate_taken : Inertial → Vector → Option Float → Bool
   estimate_taken f v sigma = setters.bias_taken w f.params.rest.bias_clip v && setters.sigma_or_none_taken w sigma
 
   -- P holds of a construction, and of what each call stores in a half of which it holds
@@ -28,7 +28,7 @@ module _ (w : Format) (P : Inertial → Type 0) where
     pub dist : (f : Inertial) → P f → (on : Bool) → P (setters.set_mag_dist_rejection_enabled f on)
     pub thresholds : (f : Inertial) → P f → (g a : Float) → T (threshold_taken w g && threshold_taken w a)
         → P (setters.with_params f (setters.with_rest_params f.params (setters.with_thresholds f.params.rest g a)))
-    pub bias : (f : Inertial) → P f → (v : Vector) (sigma : Sigma) → T (estimate_taken f v sigma) → P (setters.with_bias f (setters.with_estimate w f.state.bias v sigma))
+    pub bias : (f : Inertial) → P f → (v : Vector) (sigma : Option Float) → T (estimate_taken f v sigma) → P (setters.with_bias f (setters.with_estimate w f.state.bias v sigma))
     pub reset : (f : Inertial) → P f → P (setters.reset_state w f)
 
   module _ (i : Invariant) where

@@ -1,6 +1,6 @@
 -- What rest turns on is a view of the filter. Each accepted call moves that view by one function of the view and the call (`moved`), and a refused
 -- one leaves it. What the diary and the events tell moves in the same way (`kept_up`), and both start alike (`rest_from_history`).
-use Rattle.floats.specs.Prelude.{◌≡◌, refl, ap, ◌∙◌, Bool, true, false, cond, ◌&&◌, Bool_beq, List, [], ◌∷◌, ℕ, Float, Format, eq}
+use Rattle.floats.specs.Prelude.{◌≡◌, refl, ap, ◌∙◌, Bool, true, false, cond, ◌&&◌, Bool_beq, List, [], ◌∷◌, ℕ, Float, Format, eq, Option}
 use Rattle.floats.specs.Tests.{keeps}
 use Rattle.algebra.specs.declared.vector.Vector.{Vector}
 use Rattle.limits.specs.Answers.{Told, told}
@@ -16,7 +16,7 @@ use Rattle.inertial.specs.Setup as setup
 use Rattle.inertial.specs.Setters as setters
 use Rattle.inertial.specs.Calls.{Call, own, update_gyr, update_acc, update_gyr_with_ts, set_tau_acc, set_motion_bias_est_enabled, set_rest_bias_est_enabled, set_mag_dist_rejection_enabled, set_rest_detection_thresholds, set_bias_estimate, reset_state, answered, reply, run, answers}
 use Rattle.inertial.specs.RestHistory.{if_accepted, opened, noted, next, written, event, events, RestFromHistory}
-use Rattle.inertial.specs.Types.{Inertial, Sigma}
+use Rattle.inertial.specs.Types.{Inertial}
 use Rattle.inertial.proofs.Steps.{gyr_keeps, acc_keeps}
 use Rattle.inertial.proofs.Tested.{fits}
 
@@ -80,7 +80,7 @@ module _ (w : Format) where
   unfolding setters.set_rest_detection_thresholds
   thresholds_move f g a = keeps (Moved f (stepped (view_of f) (own (set_rest_detection_thresholds g a)))) (threshold_taken w g && threshold_taken w a) _ (told 4 f) (λ _. refl) refl
 
-  estimate_keeps : (f : Inertial) (b : Vector) (sigma : Sigma) → Moved f (view_of f) (setters.set_bias_estimate w f b sigma)
+  estimate_keeps : (f : Inertial) (b : Vector) (sigma : Option Float) → Moved f (view_of f) (setters.set_bias_estimate w f b sigma)
   unfolding setters.set_bias_estimate
   estimate_keeps f b sigma = keeps (Moved f (view_of f)) (setters.bias_taken w f.params.rest.bias_clip b && setters.sigma_or_none_taken w sigma) _ (told 4 f) (λ _. refl) refl
 

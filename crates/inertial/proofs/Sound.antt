@@ -9,6 +9,7 @@ use Rattle.algebra.specs.declared.vector.Vector.{Vector}
 use Rattle.algebra.specs.declared.quaternion.Quaternion.{Quaternion}
 use Rattle.algebra.proofs.Normalized.{AllSmall, identity_small, normalized_small}
 use Rattle.filters.specs.declared.coeffs.Coeffs.{Coeffs}
+use Rattle.limits.specs.declared.updated.Tried.{Tried}
 use Rattle.inertial.specs.Setup.{taken, bias_coefficients, setup, fresh_state, new}
 use Rattle.tilt.specs.Setup.{fresh_rest, fresh_inclination}
 use Rattle.tilt.specs.Rest.{squared_deviation, broken}
@@ -22,8 +23,6 @@ use Rattle.tilt.specs.declared.types.Deviations.{Deviations}
 use Rattle.inertial.specs.Types.{Inertial, InertialParams}
 use Rattle.tilt.specs.declared.types.Rest.{Rest}
 use Rattle.tilt.specs.declared.types.RestParams.{RestParams}
-use Rattle.tilt.specs.declared.rest.TriedRest.{TriedRest}
-use Rattle.tilt.specs.declared.gyr.TriedQuat.{TriedQuat}
 use Rattle.inertial.proofs.Construction.{Threshold, opened}
 use Rattle.inertial.proofs.Invariants.{Invariant, reached}
 
@@ -74,29 +73,29 @@ module _ (w : Format) where
   Squared r = Squares w r.rest_last_squared_deviations
 
   module _ (r : Rest) (p : RestParams) (ts : Float) (k : Coeffs) (v : Vector) (h : Squared r) where
-    gyr_rest_squared : Squared (gyr_rest w r p ts k v).rest
+    gyr_rest_squared : Squared (gyr_rest w r p ts k v).value
     unfolding gyr_rest gyr_filtered broken
     gyr_rest_squared =
         let f = gyr_filtered w r p.rest_filter_tau ts k v in
         let now : Squared f = (deviation_radicand v f.rest_last_gyr_lp, h.1) in
-        keeps (λ (t : TriedRest). Squared t.rest) (p.rest_bias_est_enabled || p.mag_dist_rejection_enabled) _ _
+        keeps (λ (t : Tried Rest). Squared t.value) (p.rest_bias_est_enabled || p.mag_dist_rejection_enabled) _ _
         (λ _. keeps Squared (gyr_stirred w p f.rest_last_squared_deviations.0 f.rest_last_gyr_lp) _ _ (λ _. now) now)
         h
 
-    acc_rest_squared : Squared (acc_rest w r p ts k v).rest
+    acc_rest_squared : Squared (acc_rest w r p ts k v).value
     unfolding acc_rest acc_filtered broken counted
     acc_rest_squared =
         let f = acc_filtered w r p.rest_filter_tau ts k v in
         let now : Squared f = (h.0, deviation_radicand v f.rest_last_acc_lp) in
-        keeps (λ (t : TriedRest). Squared t.rest) p.rest_bias_est_enabled _ _
-        (λ _. keeps (λ (t : TriedRest). Squared t.rest) (acc_stirred w p f) _ _ (λ _. now) now)
+        keeps (λ (t : Tried Rest). Squared t.value) p.rest_bias_est_enabled _ _
+        (λ _. keeps (λ (t : Tried Rest). Squared t.value) (acc_stirred w p f) _ _ (λ _. now) now)
         h
 
   -- ---- the gyro step
-  predicted_small : (q : Quaternion) (bias gyr : Vector) (ts : Float) → AllSmall w q → T (predicted w q bias gyr ts).finite → AllSmall w (predicted w q bias gyr ts).quat
+  predicted_small : (q : Quaternion) (bias gyr : Vector) (ts : Float) → AllSmall w q → T (predicted w q bias gyr ts).finite → AllSmall w (predicted w q bias gyr ts).value
   unfolding predicted turned
   predicted_small q bias gyr ts h =
-      keeps (λ (t : TriedQuat). T t.finite → AllSmall w t.quat) (lt (vectors.epsilon w) (vectors.norm w (vectors.both (sub w) gyr bias))) _ _
+      keeps (λ (t : Tried Quaternion). T t.finite → AllSmall w t.value) (lt (vectors.epsilon w) (vectors.norm w (vectors.both (sub w) gyr bias))) _ _
       (λ _. normalized_small w _) (λ _. h)
 
   -- ---- the accelerometer step

@@ -9,8 +9,9 @@ use Rattle.inertial.specs.Told.{state_of, with_state}
 use Rattle.inertial.specs.Gyr.{put_back, update_gyr_with_ts}
 use Rattle.inertial.specs.Acc.{singular, left, acc_settled, acc_step, update_acc}
 use Rattle.inertial.specs.Answers.{gyr_rest_of, quat_of, after_gyr, acc_rest_of, inclination_of, bias_tried, bias_of, after_acc}
-use Rattle.inertial.specs.Types.{Inertial, TriedBias}
+use Rattle.inertial.specs.Types.{Inertial, Bias}
 use Rattle.algebra.specs.declared.matrix.NoInverse.{NoInverse}
+use Rattle.limits.specs.declared.updated.Tried.{Tried}
 
 abbrev pub asked_gyr : Bool → Bool → Bool → Inertial → Inertial → Told Inertial
 asked_gyr taken timely finite next f = cond taken (cond timely (cond finite (told 0 next) (told 6 f)) (told 3 f)) (told 2 f)
@@ -33,7 +34,7 @@ module _ (w : Format) (f : Inertial) (v : Vector) where
       kept n = told_gyr n f.state.rest f.state.inclination.gyr_quat
 
       go : (taken timely finite : Bool)
-          → put_back f (cond taken (cond timely (cond finite (told_gyr 0 (gyr_rest_of w f v).rest (quat_of w f v ts).quat) (kept 6)) (kept 3)) (kept 2))
+          → put_back f (cond taken (cond timely (cond finite (told_gyr 0 (gyr_rest_of w f v).value (quat_of w f v ts).value) (kept 6)) (kept 3)) (kept 2))
           ≡ asked_gyr taken timely finite (after_gyr w f v ts) f
       go true true true = refl
       go true true false = refl
@@ -41,12 +42,12 @@ module _ (w : Format) (f : Inertial) (v : Vector) where
       go false timely finite = refl
 
   -- the last of an accelerometer step, whichever the bias is
-  settled_asked : (b : Result TriedBias NoInverse)
+  settled_asked : (b : Result (Tried Bias) NoInverse)
       → let t = left f.state.bias b in
       acc_settled f (acc_rest_of w f v) (inclination_of w f v) b
       ≡ cond (singular b) (told 5 f)
       (cond ((acc_rest_of w f v).finite && (inclination_of w f v).finite && t.finite)
-      (told 0 (with_state f (state_of (inclination_of w f v).inclination t.bias (acc_rest_of w f v).rest))) (told 6 f))
+      (told 0 (with_state f (state_of (inclination_of w f v).inclination t.value (acc_rest_of w f v).value))) (told 6 f))
   unfolding acc_settled
   settled_asked (Err e) = refl
   settled_asked (Ok b) = refl

@@ -11,6 +11,7 @@ use Rattle.filters.specs.Coefficients.{finite_coeffs}
 use Rattle.filters.specs.Banks.{finite_channels}
 use Rattle.filters.specs.declared.coeffs.Coeffs.{Coeffs}
 use Rattle.limits.specs.Limits.{longest, tau_taken}
+use Rattle.limits.specs.declared.updated.Tried.{Tried}
 use Rattle.tilt.proofs.Tested.{gyr_rest_tested, acc_rest_tested, predicted_tested}
 use Rattle.inertial.specs.Answers.{gyr_rest_of, quat_of, after_gyr, acc_rest_of, inclination_of, bias_of, after_acc, new_lp, at_tau_acc}
 use Rattle.inertial.specs.AllFinite.{finite_params, finite_coefficients, all_finite}
@@ -20,15 +21,15 @@ use Rattle.tilt.specs.Scalars.{radians}
 use Rattle.tilt.specs.Acc.{finite_inclination, acc_lowpassed, inclined}
 use Rattle.inertial.specs.Acc.{left}
 use Rattle.inertial.specs.Kalman.{finite_bias, updated_bias, rotation, smoothed, measured, widened, estimated, bias_step}
-use Rattle.inertial.specs.Types.{Bias, Inertial, InertialCoefficients, InertialParams, Smooth, Estimate, TriedBias}
+use Rattle.inertial.specs.Types.{Bias, Inertial, InertialCoefficients, InertialParams, Smooth, Estimate}
 use Rattle.tilt.specs.declared.types.Inclination.{Inclination}
 use Rattle.tilt.specs.declared.types.Rest.{Rest}
 use Rattle.inertial.proofs.Parts.{parts, whole, state_parts, whole_state, bias_parts, whole_bias, put_state}
 
 module _ (w : Format) where
   -- ---- the bias
-  abbrev BiasTested : TriedBias → Type 0
-  BiasTested t = (T t.finite → T (finite_bias t.bias)) × (T (finite_bias t.bias) → T t.finite)
+  abbrev BiasTested : Tried Bias → Type 0
+  BiasTested t = (T t.finite → T (finite_bias t.value)) × (T (finite_bias t.value) → T t.finite)
 
   updated_bias_tested : (b : Bias) (s : Smooth) (k : Result Estimate NoInverse) → T (finite_bias b) → BiasTested (left b (updated_bias s k))
   unfolding updated_bias
@@ -41,8 +42,8 @@ module _ (w : Format) where
       let m = rotation w (quaternions.times w i.acc_quat i.gyr_quat) in
       let s = smoothed w b m p.tau_acc k.acc_ts k.acc_lp in
       let e = estimated w b.bias (widened w b.bias_p k.bias) (measured w s p k r a b.bias) (radians w p.rest.bias_clip) in
-      keeps (λ (t : Result TriedBias NoInverse). BiasTested (left b t)) (p.bias.motion_bias_est_enabled || p.rest.rest_bias_est_enabled)
-      (updated_bias s e) (Ok (record { finite = true; bias = b })) (λ _. updated_bias_tested b s e h) (λ _. h, λ _. tt)
+      keeps (λ (t : Result (Tried Bias) NoInverse). BiasTested (left b t)) (p.bias.motion_bias_est_enabled || p.rest.rest_bias_est_enabled)
+      (updated_bias s e) (Ok (record { finite = true; value = b })) (λ _. updated_bias_tested b s e h) (λ _. h, λ _. tt)
 
   -- ---- the steps
   pub gyr_tested : (f : Inertial) (gyr : Vector) (ts : Float) → T (all_finite f)
@@ -65,7 +66,7 @@ module _ (w : Format) where
   acc_tested f acc h =
       let s = state_parts _ (parts f h).state in
       let r = acc_rest_tested w f.state.rest f.params.rest f.coeffs.acc_ts f.coeffs.rest_acc_lp acc (s.gyr_rest, s.acc_rest) in
-      let b = bias_step_tested f.state.bias f.params f.coeffs (inclination_of w f acc).inclination (acc_rest_of w f acc).rest (inclination_of w f acc).acc_earth s.bias in
+      let b = bias_step_tested f.state.bias f.params f.coeffs (inclination_of w f acc).inclination (acc_rest_of w f acc).value (inclination_of w f acc).acc_earth s.bias in
       alike _ _
       (λ t.
       let u = simp both at t in

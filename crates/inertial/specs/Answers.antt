@@ -12,9 +12,12 @@ use Rattle.algebra.specs.declared.matrix.Matrix.{Matrix}
 use Rattle.algebra.specs.declared.matrix.NoInverse.{NoInverse}
 use Rattle.filters.specs.Coefficients.{filter_coeffs}
 use Rattle.filters.specs.declared.coeffs.Coeffs.{Coeffs}
+use Rattle.algebra.specs.declared.quaternion.Quaternion.{Quaternion}
 use Rattle.limits.specs.Answers.{Kept}
 use Rattle.limits.specs.Table.{Faults, faultless, setting_fault, Exactly}
 use Rattle.limits.specs.Limits.{within, gyr_taken, acc_taken, interval_taken, zero_sample, tau_taken, threshold_taken}
+use Rattle.limits.specs.declared.updated.Tried.{Tried}
+use Rattle.tilt.specs.declared.types.Rest.{Rest}
 use Rattle.inertial.specs.Told.{state_of, with_state}
 use Rattle.inertial.specs.Gyr.{with_gyr_quat}
 use Rattle.tilt.specs.Gyr.{gyr_rest, predicted}
@@ -25,40 +28,38 @@ use Rattle.inertial.specs.Setters.{with_tau_acc, with_acc_lp, adapted_bias, bias
 use Rattle.tilt.specs.Setters.{adapted_inclination}
 use Rattle.inertial.specs.AllFinite.{all_finite}
 use Rattle.inertial.specs.Calls.{Call, own, update_gyr, update_acc, update_gyr_with_ts, set_tau_acc, set_motion_bias_est_enabled, set_rest_bias_est_enabled, set_mag_dist_rejection_enabled, set_rest_detection_thresholds, set_bias_estimate, reset_state, reply}
+use Rattle.inertial.specs.declared.types.Bias.{Bias}
 use Rattle.inertial.specs.declared.types.Inertial.{Inertial}
-use Rattle.tilt.specs.declared.rest.TriedRest.{TriedRest}
-use Rattle.tilt.specs.declared.gyr.TriedQuat.{TriedQuat}
 use Rattle.tilt.specs.declared.acc.TriedInclination.{TriedInclination}
 use Rattle.inertial.specs.declared.kalman.Measurement.{Measurement}
-use Rattle.inertial.specs.declared.kalman.TriedBias.{TriedBias}
 
 module _ (w : Format) where
   -- ---- What a call would leave, were nothing wrong with it.
-  abbrev pub gyr_rest_of : Inertial → Vector → TriedRest
+  abbrev pub gyr_rest_of : Inertial → Vector → Tried Rest
   gyr_rest_of f gyr = gyr_rest w f.state.rest f.params.rest f.coeffs.gyr_ts f.coeffs.rest_gyr_lp gyr
 
-  abbrev pub quat_of : Inertial → Vector → Float → TriedQuat
+  abbrev pub quat_of : Inertial → Vector → Float → Tried Quaternion
   quat_of f gyr ts = predicted w f.state.inclination.gyr_quat f.state.bias.bias gyr ts
 
   abbrev pub after_gyr : Inertial → Vector → Float → Inertial
-  after_gyr f gyr ts = with_state f (state_of (with_gyr_quat f.state.inclination (quat_of f gyr ts).quat) f.state.bias (gyr_rest_of f gyr).rest)
+  after_gyr f gyr ts = with_state f (state_of (with_gyr_quat f.state.inclination (quat_of f gyr ts).value) f.state.bias (gyr_rest_of f gyr).value)
 
-  abbrev pub acc_rest_of : Inertial → Vector → TriedRest
+  abbrev pub acc_rest_of : Inertial → Vector → Tried Rest
   acc_rest_of f acc = acc_rest w f.state.rest f.params.rest f.coeffs.acc_ts f.coeffs.rest_acc_lp acc
 
   abbrev pub inclination_of : Inertial → Vector → TriedInclination
   inclination_of f acc = inclined w f.state.inclination f.params.tau_acc f.coeffs.acc_ts f.coeffs.acc_lp acc
 
-  abbrev pub bias_tried : Inertial → Vector → Result TriedBias NoInverse
+  abbrev pub bias_tried : Inertial → Vector → Result (Tried Bias) NoInverse
   bias_tried f acc =
       let i = inclination_of f acc in
-      bias_step w f.state.bias f.params f.coeffs i.inclination (acc_rest_of f acc).rest i.acc_earth
+      bias_step w f.state.bias f.params f.coeffs i.inclination (acc_rest_of f acc).value i.acc_earth
 
-  abbrev pub bias_of : Inertial → Vector → TriedBias
+  abbrev pub bias_of : Inertial → Vector → Tried Bias
   bias_of f acc = left f.state.bias (bias_tried f acc)
 
   abbrev pub after_acc : Inertial → Vector → Inertial
-  after_acc f acc = with_state f (state_of (inclination_of f acc).inclination (bias_of f acc).bias (acc_rest_of f acc).rest)
+  after_acc f acc = with_state f (state_of (inclination_of f acc).inclination (bias_of f acc).value (acc_rest_of f acc).value)
 
   abbrev pub new_lp : Inertial → Float → Coeffs
   new_lp f tau = filter_coeffs tau f.coeffs.acc_ts
@@ -82,7 +83,7 @@ module _ (w : Format) where
       let i = inclination_of f acc in
       let r = rotation w (quaternions.times w i.inclination.acc_quat i.inclination.gyr_quat) in
       let s = smoothed w f.state.bias r f.params.tau_acc f.coeffs.acc_ts f.coeffs.acc_lp in
-      measured w s f.params f.coeffs (acc_rest_of f acc).rest i.acc_earth f.state.bias.bias
+      measured w s f.params f.coeffs (acc_rest_of f acc).value i.acc_earth f.state.bias.bias
 
   abbrev pub to_invert : Inertial → Vector → Matrix
   to_invert f acc = let m = measurement f acc in innovation w (widened w f.state.bias.bias_p f.coeffs.bias) m.r m.w

@@ -1,5 +1,5 @@
 -- The calls of the inertial half as data, and what a list of them leaves and answers, over the format w.
-use Rattle.std.specs.Prelude.{Bool, List, [], ◌∷◌, ℕ, Float}
+use Rattle.std.specs.Prelude.{Bool, List, [], ◌∷◌, ℕ, Option, Float}
 use Rattle.std.specs.Float.{Format}
 use Rattle.algebra.specs.declared.vector.Vector.{Vector}
 use Rattle.limits.specs.Answers.{Told, told}
@@ -7,7 +7,6 @@ use Rattle.inertial.specs.Gyr as gyr
 use Rattle.inertial.specs.Acc as acc
 use Rattle.inertial.specs.Setters as setters
 use Rattle.inertial.specs.declared.types.Inertial.{Inertial}
-use Rattle.inertial.specs.declared.setters.Sigma.{Sigma}
 
 -- the calls on this half alone
 pub data Own : Type 0 where
@@ -16,7 +15,7 @@ pub data Own : Type 0 where
   set_tau_acc : Float → Own
   set_motion_bias_est_enabled set_rest_bias_est_enabled : Bool → Own
   set_rest_detection_thresholds : Float → Float → Own
-  set_bias_estimate : Vector → Sigma → Own
+  set_bias_estimate : Vector → Option Float → Own
 
 -- the calls that reach it: its own, and its part of those on both halves
 pub data Call : Type 0 where

@@ -13,6 +13,7 @@ use Rattle.algebra.specs.declared.matrix.Matrix.{Matrix}
 use Rattle.algebra.specs.declared.matrix.NoInverse.{NoInverse}
 use Rattle.filters.specs.Banks.{filter_vec2, filter_vec9, finite_channels}
 use Rattle.filters.specs.declared.coeffs.Coeffs.{Coeffs}
+use Rattle.limits.specs.declared.updated.Tried.{Tried}
 use Rattle.tilt.specs.Scalars.{square, radians}
 use Rattle.inertial.specs.declared.types.Bias.{Bias}
 use Rattle.inertial.specs.declared.types.BiasCoefficients.{BiasCoefficients}
@@ -23,7 +24,6 @@ use Rattle.tilt.specs.declared.types.Rest.{Rest}
 use Rattle.inertial.specs.declared.kalman.Smooth.{Smooth}
 use Rattle.inertial.specs.declared.kalman.Measurement.{Measurement}
 use Rattle.inertial.specs.declared.kalman.Estimate.{Estimate}
-use Rattle.inertial.specs.declared.kalman.TriedBias.{TriedBias}
 
 unfoldable pub finite_bias : Bias → Bool
 finite_bias b =
@@ -47,7 +47,7 @@ with_diagonal m d =
     }
 
 -- the group after the filters and the estimate
-unfoldable pub updated_bias : Smooth → Result Estimate NoInverse → Result TriedBias NoInverse
+unfoldable pub updated_bias : Smooth → Result Estimate NoInverse → Result (Tried Bias) NoInverse
 updated_bias s (Err e) = Err e
 updated_bias s (Ok n) =
     let next : Bias = record {
@@ -56,7 +56,7 @@ updated_bias s (Ok n) =
       motion_bias_est_rlp_state = s.rlp_state;
       motion_bias_est_bias_lp_state = s.bias_lp_state;
     } in
-    Ok (record { finite = finite_bias next; bias = next })
+    Ok (record { finite = finite_bias next; value = next })
 
 module _ (w : Format) where
   open rounded w use {◌⊕◌, ◌⊖◌, ◌⊗◌, ◌⊘◌}
@@ -151,11 +151,11 @@ module _ (w : Format) where
       (by_inverse bias p m c (invert w (innovation p m.r m.w)))
       (Ok (record { bias = bias; bias_p = p }))
 
-  unfoldable pub bias_step : Bias → InertialParams → InertialCoefficients → Inclination → Rest → Vector → Result TriedBias NoInverse
+  unfoldable pub bias_step : Bias → InertialParams → InertialCoefficients → Inclination → Rest → Vector → Result (Tried Bias) NoInverse
   bias_step b p k i rest acc_earth =
       let r = rotation (quaternions.times w i.acc_quat i.gyr_quat) in
       let s = smoothed b r p.tau_acc k.acc_ts k.acc_lp in
       let m = measured s p k rest acc_earth b.bias in
       cond (p.bias.motion_bias_est_enabled || p.rest.rest_bias_est_enabled)
       (updated_bias s (estimated b.bias (widened b.bias_p k.bias) m (radians w p.rest.bias_clip)))
-      (Ok (record { finite = true; bias = b }))
+      (Ok (record { finite = true; value = b }))

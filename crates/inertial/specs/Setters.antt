@@ -1,5 +1,5 @@
 -- The setters of the inertial half, over the format w.
-use Rattle.std.specs.Prelude.{Bool, true, cond, ◌&&◌, replicate, Float}
+use Rattle.std.specs.Prelude.{Bool, true, cond, ◌&&◌, replicate, Option, None, Some, Float}
 use Rattle.std.specs.Bool.{beq}
 use Rattle.std.specs.Float.{Format}
 use Rattle.std.specs.Float.Ieee.{eq}
@@ -24,8 +24,6 @@ use Rattle.inertial.specs.declared.types.Inertial.{Inertial}
 use Rattle.inertial.specs.declared.types.InertialCoefficients.{InertialCoefficients}
 use Rattle.inertial.specs.declared.types.InertialParams.{InertialParams}
 use Rattle.tilt.specs.declared.types.RestParams.{RestParams}
-use Rattle.inertial.specs.declared.setters.Sigma.{Sigma}
-use Rattle.inertial.specs.declared.setters.Sigma.TheVariants.{Absent, Given}
 
 -- ---- a group, or a setting, in the place of another
 abbrev pub with_params : Inertial → InertialParams → Inertial
@@ -160,15 +158,15 @@ module _ (w : Format) where
   abbrev pub bias_taken : Float → Vector → Bool
   bias_taken clip = all_within (radians w clip)
 
-  unfoldable pub sigma_or_none_taken : Sigma → Bool
-  sigma_or_none_taken Absent = true
-  sigma_or_none_taken (Given s) = sigma_taken w s
+  unfoldable pub sigma_or_none_taken : Option Float → Bool
+  sigma_or_none_taken None = true
+  sigma_or_none_taken (Some s) = sigma_taken w s
 
-  abbrev pub covariance_after : Matrix → Sigma → Matrix
-  covariance_after p Absent = p
-  covariance_after p (Given s) = diagonal w (variance s)
+  abbrev pub covariance_after : Matrix → Option Float → Matrix
+  covariance_after p None = p
+  covariance_after p (Some s) = diagonal w (variance s)
 
-  unfoldable pub with_estimate : Bias → Vector → Sigma → Bias
+  unfoldable pub with_estimate : Bias → Vector → Option Float → Bias
   with_estimate b v sigma =
       record {
         bias = v;
@@ -177,7 +175,7 @@ module _ (w : Format) where
         motion_bias_est_bias_lp_state = b.motion_bias_est_bias_lp_state;
       }
 
-  unfoldable pub set_bias_estimate : Inertial → Vector → Sigma → Told Inertial
+  unfoldable pub set_bias_estimate : Inertial → Vector → Option Float → Told Inertial
   set_bias_estimate f v sigma =
       cond (bias_taken f.params.rest.bias_clip v && sigma_or_none_taken sigma)
       (told 0 (with_bias f (with_estimate f.state.bias v sigma)))

@@ -1,15 +1,12 @@
 -- What the inertial half is told to give, and how one of its groups is put in the place of another: the one place for each record.
+pub use Rattle.limits.specs.Answers.{told_of}
 use Rattle.std.specs.Prelude.{Bool, cond}
-use Rattle.limits.specs.Answers.{number, Told, told}
+use Rattle.limits.specs.Answers.{Told, told}
 use Rattle.tilt.specs.declared.types.Inclination.{Inclination}
 use Rattle.inertial.specs.declared.types.Bias.{Bias}
 use Rattle.tilt.specs.declared.types.Rest.{Rest}
 use Rattle.inertial.specs.declared.types.InertialState.{InertialState}
 use Rattle.inertial.specs.declared.types.Inertial.{Inertial}
-use Rattle.inertial.specs.declared.types.Updated.{Updated}
-
-abbrev pub told_of : Updated → Told Inertial
-told_of u = told (number u.answer) u.inertial
 
 abbrev pub state_of : Inclination → Bias → Rest → InertialState
 state_of i b r = record { inclination = i; bias = b; rest = r }

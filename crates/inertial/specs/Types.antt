@@ -2,8 +2,6 @@
 pub use Rattle.inertial.specs.declared.kalman.Estimate.{Estimate}
 pub use Rattle.inertial.specs.declared.kalman.Measurement.{Measurement}
 pub use Rattle.inertial.specs.declared.kalman.Smooth.{Smooth}
-pub use Rattle.inertial.specs.declared.kalman.TriedBias.{TriedBias}
-pub use Rattle.inertial.specs.declared.setters.Sigma.{Sigma}
 pub use Rattle.inertial.specs.declared.types.Bias.{Bias}
 pub use Rattle.inertial.specs.declared.types.BiasParams.{BiasParams}
 pub use Rattle.inertial.specs.declared.types.Inertial.{Inertial}

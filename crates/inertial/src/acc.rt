@@ -4,23 +4,24 @@ ghost use Rattle.std.specs.Float.{binary64};
 ghost use Rattle.inertial.specs.Told.{told_of};
 ghost use Rattle.inertial.specs.Acc.{update_acc, acc_step, acc_settled};
 
-use crate::kalman::{TriedBias, bias_step};
-use crate::types::{Inertial, Updated};
+use crate::kalman::bias_step;
+use crate::types::{Bias, Inertial};
 use algebra::{NoInverse, Vector};
-use limits::Answer;
+use limits::{Answer, Tried, Updated};
+use tilt::Rest;
 use tilt::acc::{TriedInclination, acc_rest, inclined};
-use tilt::rest::TriedRest;
 
 impl Inertial {
     // An accelerometer sample in m/s².
-    pub fn update_acc(self, acc: Vector) -> Updated
+    #[tactic(auto, unfolding(crate::specs::Acc::update_acc))]
+    pub fn update_acc(self, acc: Vector) -> Updated<Inertial>
         ensures { told_of result ≡ update_acc binary64 self acc }
     {
         if limits::sample::acc_taken(acc) {
             if limits::sample::zero_sample(acc) {
                 Updated {
                     answer: Answer::ZeroSample,
-                    inertial: self,
+                    filter: self,
                 }
             } else {
                 self.acc_step(acc)
@@ -28,13 +29,14 @@ impl Inertial {
         } else {
             Updated {
                 answer: Answer::BadSample,
-                inertial: self,
+                filter: self,
             }
         }
     }
 
     // The step on a sample that is taken and is not all zero.
-    fn acc_step(self, acc: Vector) -> Updated
+    #[tactic(auto, unfolding(crate::specs::Acc::acc_step))]
+    fn acc_step(self, acc: Vector) -> Updated<Inertial>
         ensures { told_of result ≡ acc_step binary64 self acc }
     {
         let ts = self.coeffs.acc_ts;
@@ -57,7 +59,7 @@ impl Inertial {
             self.params,
             self.coeffs,
             i.inclination,
-            r.rest,
+            r.value,
             i.acc_earth,
         );
         self.acc_settled(r, i, b)
@@ -67,24 +69,24 @@ impl Inertial {
     #[tactic(auto, unfolding(crate::specs::Acc::acc_settled))]
     fn acc_settled(
         self,
-        r: TriedRest,
+        r: Tried<Rest>,
         i: TriedInclination,
-        b: Result<TriedBias, NoInverse>,
-    ) -> Updated
+        b: Result<Tried<Bias>, NoInverse>,
+    ) -> Updated<Inertial>
         ensures { told_of result ≡ acc_settled self r i b }
     {
         match b {
             Err(_) => Updated {
                 answer: Answer::Singular,
-                inertial: self,
+                filter: self,
             },
             Ok(b) if r.finite & i.finite & b.finite => Updated {
                 answer: Answer::Done,
-                inertial: self.with_groups(i.inclination, b.bias, r.rest),
+                filter: self.with_groups(i.inclination, b.value, r.value),
             },
             Ok(_) => Updated {
                 answer: Answer::NotFinite,
-                inertial: self,
+                filter: self,
             },
         }
     }

@@ -31,6 +31,7 @@ impl Inertial {
     }
 
     // The largest row sum bounds the largest eigenvalue.
+    #[tactic(auto, unfolding(crate::specs::Asked::bias_estimate))]
     pub fn bias_estimate(self) -> BiasEstimate
         ensures { result ≡ bias_estimate binary64 self }
     {
@@ -55,6 +56,7 @@ impl Inertial {
     }
 }
 
+#[tactic(auto, unfolding(crate::specs::Asked::row_sum))]
 fn row_sum(x: f64, y: f64, z: f64) -> f64
     ensures { result ≡ row_sum binary64 x y z }
 {

@@ -4,19 +4,21 @@ ghost use Rattle.std.specs.Float.{binary64};
 ghost use Rattle.inertial.specs.Told.{told_of};
 ghost use Rattle.inertial.specs.Gyr.{update_gyr_with_ts, update_gyr};
 
-use crate::types::{Inertial, Updated};
+use crate::types::Inertial;
 use algebra::Vector;
+use limits::Updated;
 
 impl Inertial {
     // A gyro sample in rad/s.
-    pub fn update_gyr(self, gyr: Vector) -> Updated
+    pub fn update_gyr(self, gyr: Vector) -> Updated<Inertial>
         ensures { told_of result ≡ update_gyr binary64 self gyr }
     {
         self.update_gyr_with_ts(gyr, self.coeffs.gyr_ts)
     }
 
     // A gyro sample in rad/s that lasted ts seconds.
-    pub fn update_gyr_with_ts(self, gyr: Vector, ts: f64) -> Updated
+    #[tactic(auto, unfolding(crate::specs::Gyr::update_gyr_with_ts))]
+    pub fn update_gyr_with_ts(self, gyr: Vector, ts: f64) -> Updated<Inertial>
         ensures { told_of result ≡ update_gyr_with_ts binary64 self gyr ts }
     {
         let u = tilt::gyr::update_gyr(
@@ -32,8 +34,8 @@ impl Inertial {
         let quat = u.quat;
         let mut inclination = self.state.inclination;
         inclination.gyr_quat = quat;
-        let inertial = self.with_groups(inclination, self.state.bias, u.rest);
+        let filter = self.with_groups(inclination, self.state.bias, u.rest);
         let answer = u.answer;
-        Updated { answer, inertial }
+        Updated { answer, filter }
     }
 }

@@ -6,6 +6,7 @@ ghost use Rattle.inertial.specs.Kalman.{rotation, smoothed, at_rest, in_motion, 
 use crate::types::{Bias, BiasCoefficients, InertialCoefficients, InertialParams};
 use algebra::{Matrix, NoInverse, Quaternion, Vector};
 use filters::{Channel, Coeffs};
+use limits::Tried;
 use tilt::angle::radians;
 use tilt::{Inclination, Rest};
 
@@ -32,13 +33,6 @@ pub struct Estimate {
     pub bias_p: Matrix,
 }
 
-// The next group, and whether it is finite.
-#[derive(Clone, Copy)]
-pub struct TriedBias {
-    pub finite: bool,
-    pub bias: Bias,
-}
-
 // The bias group after an accelerometer sample, from the inclination and the rest after it, or why the matrix to invert has no inverse.
 pub fn bias_step(
     b: Bias,
@@ -47,7 +41,7 @@ pub fn bias_step(
     i: Inclination,
     rest: Rest,
     acc_earth: Vector,
-) -> Result<TriedBias, NoInverse>
+) -> Result<Tried<Bias>, NoInverse>
     ensures { result ≡ bias_step binary64 b params coeffs i rest acc_earth }
 {
     if params.bias.motion_bias_est_enabled | params.rest.rest_bias_est_enabled {
@@ -58,9 +52,9 @@ pub fn bias_step(
         let clip = radians(params.rest.bias_clip);
         updated_bias(s, estimated(b.bias, p, m, clip))
     } else {
-        Ok(TriedBias {
+        Ok(Tried {
             finite: true,
-            bias: b,
+            value: b,
         })
     }
 }
@@ -231,7 +225,7 @@ fn shrunk(p: Matrix, k: Matrix, r: Matrix) -> Matrix
 
 // The group after the filters and the estimate.
 #[tactic(auto, unfolding(crate::specs::Kalman::updated_bias))]
-fn updated_bias(s: Smooth, estimated: Result<Estimate, NoInverse>) -> Result<TriedBias, NoInverse>
+fn updated_bias(s: Smooth, estimated: Result<Estimate, NoInverse>) -> Result<Tried<Bias>, NoInverse>
     ensures { result ≡ updated_bias s estimated }
 {
     let n = estimated?;
@@ -244,7 +238,10 @@ fn updated_bias(s: Smooth, estimated: Result<Estimate, NoInverse>) -> Result<Tri
         motion_bias_est_bias_lp_state: lp,
     };
     let finite = finite_bias(bias);
-    Ok(TriedBias { finite, bias })
+    Ok(Tried {
+        finite,
+        value: bias,
+    })
 }
 
 fn finite_bias(b: Bias) -> bool

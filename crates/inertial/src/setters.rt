@@ -4,31 +4,26 @@ ghost use Rattle.std.specs.Float.{binary64};
 ghost use Rattle.inertial.specs.Told.{told_of};
 ghost use Rattle.inertial.specs.Setters.{adapted_bias, retuned, set_tau_acc, set_motion_bias_est_enabled, set_rest_bias_est_enabled, set_mag_dist_rejection_enabled, set_rest_detection_thresholds, variance, bias_taken, sigma_or_none_taken, with_estimate, set_bias_estimate, reset_state};
 
-use crate::types::{Bias, Inertial, InertialState, Updated};
+use crate::types::{Bias, Inertial, InertialState};
 use algebra::{Matrix, Vector};
 use filters::{Channel, Coeffs};
 use floats::PI;
-use limits::{Answer, sample, setting};
+use limits::{Answer, Updated, sample, setting};
 use tilt::Rest;
 use tilt::angle::radians;
 use tilt::setters::adapted_inclination;
 
-#[derive(Clone, Copy)]
-pub enum Sigma {
-    Absent,
-    Given(f64),
-}
-
 impl Inertial {
     // How slowly the tilt follows the accelerometer, in seconds.
-    pub fn set_tau_acc(self, tau_acc: f64) -> Updated
+    #[tactic(auto, unfolding(crate::specs::Setters::set_tau_acc))]
+    pub fn set_tau_acc(self, tau_acc: f64) -> Updated<Inertial>
         ensures { told_of result ≡ set_tau_acc binary64 self tau_acc }
     {
         if setting::tau_taken(self.coeffs.acc_ts, tau_acc) {
             if self.params.tau_acc == tau_acc {
                 Updated {
                     answer: Answer::Done,
-                    inertial: self,
+                    filter: self,
                 }
             } else {
                 self.retuned(tau_acc)
@@ -36,13 +31,14 @@ impl Inertial {
         } else {
             Updated {
                 answer: Answer::BadSetting,
-                inertial: self,
+                filter: self,
             }
         }
     }
 
     // The half with a new time constant, where all that it stores is finite.
-    fn retuned(self, tau_acc: f64) -> Updated
+    #[tactic(auto, unfolding(crate::specs::Setters::retuned))]
+    fn retuned(self, tau_acc: f64) -> Updated<Inertial>
         ensures { told_of result ≡ retuned binary64 self tau_acc }
     {
         let old = self.coeffs.acc_lp;
@@ -64,7 +60,7 @@ impl Inertial {
             let rest = self.state.rest;
             Updated {
                 answer: Answer::Done,
-                inertial: Inertial {
+                filter: Inertial {
                     params,
                     coeffs,
                     state: InertialState {
@@ -77,12 +73,13 @@ impl Inertial {
         } else {
             Updated {
                 answer: Answer::NotFinite,
-                inertial: self,
+                filter: self,
             }
         }
     }
 
     // A switch that changes restarts the two motion filters.
+    #[tactic(auto, unfolding(crate::specs::Setters::set_motion_bias_est_enabled))]
     pub fn set_motion_bias_est_enabled(self, enabled: bool) -> Inertial
         ensures { result ≡ set_motion_bias_est_enabled self enabled }
     {
@@ -105,6 +102,7 @@ impl Inertial {
     }
 
     // A switch that changes makes the rest group fresh.
+    #[tactic(auto, unfolding(crate::specs::Setters::set_rest_bias_est_enabled))]
     pub fn set_rest_bias_est_enabled(self, enabled: bool) -> Inertial
         ensures { result ≡ set_rest_bias_est_enabled binary64 self enabled }
     {
@@ -119,6 +117,7 @@ impl Inertial {
     }
 
     // The switch alone: what it makes fresh is magnetic.
+    #[tactic(auto, unfolding(crate::specs::Setters::set_mag_dist_rejection_enabled))]
     pub fn set_mag_dist_rejection_enabled(self, enabled: bool) -> Inertial
         ensures { result ≡ set_mag_dist_rejection_enabled self enabled }
     {
@@ -128,7 +127,8 @@ impl Inertial {
     }
 
     // The deviations from which a sample is not quiet: in °/s and in m/s².
-    pub fn set_rest_detection_thresholds(self, th_gyr: f64, th_acc: f64) -> Updated
+    #[tactic(auto, unfolding(crate::specs::Setters::set_rest_detection_thresholds))]
+    pub fn set_rest_detection_thresholds(self, th_gyr: f64, th_acc: f64) -> Updated<Inertial>
         ensures { told_of result ≡ set_rest_detection_thresholds binary64 self th_gyr th_acc }
     {
         if setting::threshold_taken(th_gyr) & setting::threshold_taken(th_acc) {
@@ -137,35 +137,37 @@ impl Inertial {
             rest_params.rest_th_acc = th_acc;
             Updated {
                 answer: Answer::Done,
-                inertial: self.with_rest_params(rest_params),
+                filter: self.with_rest_params(rest_params),
             }
         } else {
             Updated {
                 answer: Answer::BadSetting,
-                inertial: self,
+                filter: self,
             }
         }
     }
 
     // The gyro bias in rad/s, with a standard deviation in rad/s or the covariance that there is.
-    pub fn set_bias_estimate(self, bias: Vector, sigma: Sigma) -> Updated
+    #[tactic(auto, unfolding(crate::specs::Setters::set_bias_estimate))]
+    pub fn set_bias_estimate(self, bias: Vector, sigma: Option<f64>) -> Updated<Inertial>
         ensures { told_of result ≡ set_bias_estimate binary64 self bias sigma }
     {
         if bias_taken(self.params.rest.bias_clip, bias) & sigma_or_none_taken(sigma) {
             let estimate = with_estimate(self.state.bias, bias, sigma);
             Updated {
                 answer: Answer::Done,
-                inertial: self.with_groups(self.state.inclination, estimate, self.state.rest),
+                filter: self.with_groups(self.state.inclination, estimate, self.state.rest),
             }
         } else {
             Updated {
                 answer: Answer::BadSetting,
-                inertial: self,
+                filter: self,
             }
         }
     }
 
     // The state of a filter just built with the settings as they are now.
+    #[tactic(auto, unfolding(crate::specs::Setters::reset_state))]
     pub fn reset_state(self) -> Inertial
         ensures { result ≡ reset_state binary64 self }
     {
@@ -177,6 +179,7 @@ impl Inertial {
 }
 
 // The last values of these two filters are not stored: the first memory is close to them.
+#[tactic(auto, unfolding(crate::specs::Setters::adapted_bias))]
 fn adapted_bias(b: Bias, old: Coeffs, new: Coeffs) -> Bias
     ensures { result ≡ adapted_bias binary64 b old new }
 {
@@ -198,23 +201,25 @@ fn bias_taken(clip: f64, bias: Vector) -> bool
     sample::all_within(limit, bias)
 }
 
-fn sigma_or_none_taken(sigma: Sigma) -> bool
+#[tactic(auto, unfolding(crate::specs::Setters::sigma_or_none_taken))]
+fn sigma_or_none_taken(sigma: Option<f64>) -> bool
     ensures { result ≡ sigma_or_none_taken binary64 sigma }
 {
     match sigma {
-        Sigma::Absent => true,
-        Sigma::Given(s) => setting::sigma_taken(s),
+        None => true,
+        Some(s) => setting::sigma_taken(s),
     }
 }
 
-fn with_estimate(b: Bias, bias: Vector, sigma: Sigma) -> Bias
+#[tactic(auto, unfolding(crate::specs::Setters::with_estimate))]
+fn with_estimate(b: Bias, bias: Vector, sigma: Option<f64>) -> Bias
     ensures { result ≡ with_estimate binary64 b bias sigma }
 {
     let mut next = b;
     next.bias = bias;
     match sigma {
-        Sigma::Absent => next,
-        Sigma::Given(s) => {
+        None => next,
+        Some(s) => {
             let p = Matrix::diagonal(variance(s));
             next.bias_p = p;
             next
@@ -222,6 +227,7 @@ fn with_estimate(b: Bias, bias: Vector, sigma: Sigma) -> Bias
     }
 }
 
+#[tactic(auto, unfolding(crate::specs::Setters::variance))]
 fn variance(sigma: f64) -> f64
     ensures { result ≡ variance binary64 sigma }
 {

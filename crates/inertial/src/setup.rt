@@ -36,6 +36,7 @@ impl InertialParams {
     };
 
     // The house settings.
+    #[tactic(auto, unfolding(crate::specs::Setup::house))]
     pub fn house() -> InertialParams
         ensures { result ≡ house binary64 }
     {
@@ -44,6 +45,7 @@ impl InertialParams {
 }
 
 // Whether the intervals and the settings are within their limits.
+#[tactic(auto, unfolding(crate::specs::Setup::taken))]
 pub fn taken(p: InertialParams, gyr_ts: f64, acc_ts: f64) -> bool
     ensures { result ≡ taken binary64 p gyr_ts acc_ts }
 {
@@ -54,6 +56,7 @@ pub fn taken(p: InertialParams, gyr_ts: f64, acc_ts: f64) -> bool
         & bias_params_taken(p.bias)
 }
 
+#[tactic(auto, unfolding(crate::specs::Setup::bias_params_taken))]
 fn bias_params_taken(p: BiasParams) -> bool
     ensures { result ≡ bias_params_taken binary64 p }
 {
@@ -66,6 +69,7 @@ fn bias_params_taken(p: BiasParams) -> bool
 
 impl Inertial {
     // The half that settings and intervals within their limits give.
+    #[tactic(auto, unfolding(crate::specs::Setup::new))]
     pub fn new(params: InertialParams, gyr_ts: f64, acc_ts: f64) -> Inertial
         ensures { result ≡ new binary64 params gyr_ts acc_ts }
     {
@@ -79,6 +83,7 @@ impl Inertial {
     }
 }
 
+#[tactic(auto, unfolding(crate::specs::Setup::setup))]
 fn setup(p: InertialParams, gyr_ts: f64, acc_ts: f64) -> InertialCoefficients
     ensures { result ≡ setup binary64 p gyr_ts acc_ts }
 {
@@ -96,6 +101,7 @@ fn setup(p: InertialParams, gyr_ts: f64, acc_ts: f64) -> InertialCoefficients
     }
 }
 
+#[tactic(auto, unfolding(crate::specs::Setup::bias_coefficients))]
 fn bias_coefficients(p: BiasParams, acc_ts: f64) -> BiasCoefficients
     ensures { result ≡ bias_coefficients binary64 p acc_ts }
 {
@@ -120,6 +126,7 @@ fn bias_coefficients(p: BiasParams, acc_ts: f64) -> BiasCoefficients
 
 impl InertialState {
     // Before the first sample.
+    #[tactic(auto, unfolding(crate::specs::Setup::fresh_state))]
     pub fn fresh(bias_p0: f64) -> InertialState
         ensures { result ≡ fresh_state binary64 bias_p0 }
     {

@@ -5,7 +5,6 @@ ghost use Rattle.inertial.specs.Setters.{with_params, with_rest_params};
 
 use algebra::{Matrix, Vector};
 use filters::{Channel, Coeffs};
-use limits::Answer;
 use tilt::{Inclination, Rest, RestParams};
 
 #[derive(Clone, Copy)]
@@ -64,12 +63,6 @@ pub struct Inertial {
     pub params: InertialParams,
     pub coeffs: InertialCoefficients,
     pub state: InertialState,
-}
-
-#[derive(Clone, Copy)]
-pub struct Updated {
-    pub answer: Answer,
-    pub inertial: Inertial,
 }
 
 impl Inertial {

@@ -2,9 +2,9 @@
 use Rattle.floats.specs.Prelude.{◌≡◌, refl, sym, ap, ◌∙◌, Bool, true, false, cond, ◌&&◌, ◌||◌, List, ◌++◌, append-nil, ℕ, ◌+◌, ◌≤◌, ◌<◌, arith, eqb-true, eqb, zero-add, add-one, length, get_or, take, set, drop_of_length-le, Float}
 use lib.Seq.{sets, sets-eq, paste, paste-suc, take_all}
 use Rattle.limits.specs.Answers.{number, Told, told}
+use Rattle.limits.specs.declared.updated.Updated.{Updated}
 use Rattle.vqf.specs.Told.{told_of, all_told}
 use Rattle.vqf.specs.declared.types.VQF.{VQF}
-use Rattle.vqf.specs.declared.types.Updated.{Updated}
 use Rattle.vqf.specs.declared.types.UpdatedAll.{UpdatedAll}
 use Rattle.image.specs.Pack.{pack}
 use Rattle.image.specs.Image.{fits, packed, unpack}
@@ -19,7 +19,7 @@ module _ (s : List Float) (n : ℕ) (f : VQF) where
   unfolding kept
   kept_refused fit = (λ j. told wrong_length (cond (fit j) (pack f) s)) ∙ sym (λ j. cond (fit j) (told n (pack f)) (told wrong_length s))
 
-pub fed_done : (step : VQF → Told VQF) (s : List Float) (f : VQF) (u : Updated) (t : Told (List Float))
+pub fed_done : (step : VQF → Told VQF) (s : List Float) (f : VQF) (u : Updated VQF) (t : Told (List Float))
     → f ≡ unpack s → told_of u ≡ step f → t ≡ kept s (told_of u) → t ≡ fed step s
 unfolding fed
 fed_done step s f u t e eu et = et ∙ ap (kept s) (eu ∙ ap step e)
@@ -29,7 +29,7 @@ module _ (samples s : List Float) (answers : List ℕ) where
   unfolding updated
   updated_refused no_fit = sym (λ j. cond (no_fit j) (all_kept (stepped (unpack s) samples)) (told wrong_length (s, answers)))
 
-  pub updated_done : (all : UpdatedAll) (u : Updated) (answered : Told (List ℕ)) (t : Told (List Float))
+  pub updated_done : (all : UpdatedAll) (u : Updated VQF) (answered : Told (List ℕ)) (t : Told (List Float))
       → fits s ≡ true → eqb (length answers) 3 ≡ true → sampled samples ≡ true → all_told all ≡ stepped (unpack s) samples
       → told_of u ≡ summed_up (all_told all) → answered ≡ given (three_numbers (all_told all)) answers
       → t ≡ kept s (told_of u) → told t.number (t.left, answered.left) ≡ updated samples s answers

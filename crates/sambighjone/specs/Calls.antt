@@ -1,9 +1,10 @@
 -- What a call of the library gives: a number, and what it leaves of the numbers that it is lent. Where a list has another length than the call asks for, the number is `wrong_length`, and nothing is changed.
-use Rattle.std.specs.Prelude.{Bool, cond, ◌&&◌, ◌||◌, List, [], ◌∷◌, ℕ, eqb, ltb, length, Float}
+use Rattle.std.specs.Prelude.{Bool, cond, ◌&&◌, ◌||◌, List, [], ◌∷◌, ℕ, eqb, ltb, length, Option, None, Some, Float}
 use Rattle.std.specs.Float.{binary64}
 use Rattle.std.specs.Float.Ieee.{eq}
 use Rattle.floats.specs.Notation.{zero, one}
 use Rattle.algebra.specs.declared.quaternion.Quaternion.{Quaternion}
+use Rattle.algebra.specs.declared.vector.Vector.{Vector}
 use Rattle.inertial.specs.declared.asked.BiasEstimate.{BiasEstimate}
 use Rattle.tilt.specs.declared.types.Deviations.{Deviations}
 use Rattle.limits.specs.Answers.{Told, told}
@@ -13,10 +14,6 @@ use Rattle.vqf.specs.Update.{update}
 use Rattle.vqf.specs.Told.{ToldAll}
 use Rattle.vqf.specs.declared.types.VQF.{VQF}
 use Rattle.vqf.specs.declared.types.Params.{Params}
-use Rattle.vqf.specs.declared.types.Sample.{Sample}
-use Rattle.vqf.specs.declared.types.Sample.TheVariants as sample
-use Rattle.vqf.specs.declared.types.Interval.TheVariants.{Given}
-use Rattle.vqf.specs.declared.types.Settings.TheVariants.{Given as These}
 use Rattle.image.specs.Pack.{pack, all_params}
 use Rattle.image.specs.Image.{SETTINGS, fits, unpack, params}
 use Rattle.image.specs.Unpack.{number, vector}
@@ -47,7 +44,7 @@ flags_taken settings = a_flag (number settings 1) && a_flag (number settings 2) 
 
 unfoldable pub constructed : Float → Float → Float → List Float → Told VQF
 constructed gyr_ts acc_ts mag_ts settings =
-    cond (flags_taken settings) (new binary64 gyr_ts (Given acc_ts) (Given mag_ts) (These (params settings))) (told 4 (fresh binary64))
+    cond (flags_taken settings) (new binary64 gyr_ts (Some acc_ts) (Some mag_ts) (Some (params settings))) (told 4 (fresh binary64))
 
 unfoldable pub built : Float → Float → Float → List Float → List Float → Told (List Float)
 built gyr_ts acc_ts mag_ts settings s =
@@ -58,8 +55,8 @@ built gyr_ts acc_ts mag_ts settings s =
 abbrev pub sampled : List Float → Bool
 sampled samples = eqb (length samples) 6 || eqb (length samples) 9
 
-unfoldable pub magnetometer : List Float → Sample
-magnetometer samples = cond (eqb (length samples) 9) (sample.Given (vector samples 6)) sample.Absent
+unfoldable pub magnetometer : List Float → Option Vector
+magnetometer samples = cond (eqb (length samples) 9) (Some (vector samples 6)) None
 
 -- the first of three numbers that is not 0
 unfoldable pub first_refusal : ℕ → ℕ → ℕ → ℕ

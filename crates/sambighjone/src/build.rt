@@ -10,7 +10,7 @@ ghost use Rattle.sambighjone.specs.Calls.{fed, a_flag, flags_taken, constructed,
 use crate::kept::{WRONG_LENGTH, keep};
 use image::SETTINGS;
 use limits::Answer;
-use vqf::{Interval, Settings, Updated, VQF};
+use vqf::{Updated, VQF};
 
 // The house filter.
 pub fn sambighjone_fresh(image: &mut [f64]) -> u32
@@ -49,9 +49,9 @@ fn constructed(gyr_ts: f64, acc_ts: f64, mag_ts: f64, settings: &[f64]) -> Updat
     if flags_taken(settings) {
         VQF::new(
             gyr_ts,
-            Interval::Given(acc_ts),
-            Interval::Given(mag_ts),
-            Settings::Given(image::unpack::params(settings)),
+            Some(acc_ts),
+            Some(mag_ts),
+            Some(image::unpack::params(settings)),
         )
     } else {
         fresh(Answer::BadSetting)

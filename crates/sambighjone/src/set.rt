@@ -1,15 +1,13 @@
 // The setters, and the reset.
-ghost use Rattle.std.specs.Prelude.{◌≡◌};
+ghost use Rattle.std.specs.Prelude.{◌≡◌, None, Some};
 ghost use Rattle.std.specs.Float.{binary64};
 ghost use Rattle.algebra.specs.Vectors.{vector};
-ghost use Rattle.inertial.specs.declared.setters.Sigma.TheVariants.{Absent, Given};
 ghost use Rattle.limits.specs.Answers.{told};
 ghost use Rattle.vqf.specs.Setters.{set_tau_acc, set_tau_mag, set_motion_bias_est_enabled, set_rest_bias_est_enabled, set_mag_dist_rejection_enabled, set_rest_detection_thresholds, set_bias_estimate, set_mag_ref, reset_state};
 ghost use Rattle.sambighjone.specs.Calls.{fed, switched};
 
 use crate::kept::keep;
 use algebra::Vector;
-use inertial::setters::Sigma;
 
 // How slowly the tilt follows the accelerometer, in seconds.
 pub fn sambighjone_set_tau_acc(image: &mut [f64], tau: f64) -> u32
@@ -76,10 +74,10 @@ pub fn sambighjone_set_rest_detection_thresholds(image: &mut [f64], th_gyr: f64,
 
 // The bias, its uncertainty as it is.
 pub fn sambighjone_set_bias_estimate(image: &mut [f64], x: f64, y: f64, z: f64) -> u32
-    ensures { told result image.new ≡ fed (λ f. set_bias_estimate binary64 f (vector x y z) Absent) image.old }
+    ensures { told result image.new ≡ fed (λ f. set_bias_estimate binary64 f (vector x y z) None) image.old }
 {
     let f = image::unpack::unpack(image);
-    let u = f.set_bias_estimate(Vector(x, y, z), Sigma::Absent);
+    let u = f.set_bias_estimate(Vector(x, y, z), None);
     keep(image, u)
 }
 
@@ -91,10 +89,10 @@ pub fn sambighjone_set_bias_estimate_with_sigma(
     z: f64,
     sigma: f64,
 ) -> u32
-    ensures { told result image.new ≡ fed (λ f. set_bias_estimate binary64 f (vector x y z) (Given sigma)) image.old }
+    ensures { told result image.new ≡ fed (λ f. set_bias_estimate binary64 f (vector x y z) (Some sigma)) image.old }
 {
     let f = image::unpack::unpack(image);
-    let u = f.set_bias_estimate(Vector(x, y, z), Sigma::Given(sigma));
+    let u = f.set_bias_estimate(Vector(x, y, z), Some(sigma));
     keep(image, u)
 }
 

@@ -11,7 +11,7 @@ use crate::put::put_three;
 use algebra::Vector;
 use image::SIZE;
 use limits::Answer;
-use vqf::{Sample, Updated, UpdatedAll};
+use vqf::{Updated, UpdatedAll};
 
 fn sampled(samples: &[f64]) -> bool
     ensures { result ≡ sampled samples.now }
@@ -26,14 +26,14 @@ fn vector(samples: &[f64], at: usize) -> Vector
     Vector(samples[at], samples[at + 1], samples[at + 2])
 }
 
-fn magnetometer(samples: &[f64]) -> Sample
+fn magnetometer(samples: &[f64]) -> Option<Vector>
     ensures { result ≡ magnetometer samples.now }
 {
     if samples.len() == 9 {
         let v = vector(samples, 6);
-        Sample::Given(v)
+        Some(v)
     } else {
-        Sample::Absent
+        None
     }
 }
 

@@ -1,8 +1,7 @@
 // The setters, and the reset.
-ghost use Rattle.std.specs.Prelude.{◌≡◌};
+ghost use Rattle.std.specs.Prelude.{◌≡◌, None, Some};
 ghost use Rattle.std.specs.Float.{binary64};
 ghost use Rattle.algebra.specs.Vectors.{vector};
-ghost use Rattle.inertial.specs.declared.setters.Sigma.TheVariants.{Absent, Given};
 ghost use Rattle.limits.specs.Answers.{told};
 ghost use Rattle.vqf.specs.Setters.{set_tau_acc, set_tau_mag, set_motion_bias_est_enabled, set_rest_bias_est_enabled, set_mag_dist_rejection_enabled, set_rest_detection_thresholds, set_bias_estimate, set_mag_ref, reset_state};
 ghost use Rattle.sambighjone.specs.Calls.{fed, switched};
@@ -62,7 +61,7 @@ pub extern "C" fn sambighjone_set_rest_detection_thresholds(
 // The bias, its uncertainty as it is.
 #[unsafe(no_mangle)]
 pub extern "C" fn sambighjone_set_bias_estimate(image: &mut [f64], x: f64, y: f64, z: f64) -> u32
-    ensures { told result image.new ≡ fed (λ f. set_bias_estimate binary64 f (vector x y z) Absent) image.old }
+    ensures { told result image.new ≡ fed (λ f. set_bias_estimate binary64 f (vector x y z) None) image.old }
 {
     sambighjone::set::sambighjone_set_bias_estimate(image, x, y, z)
 }
@@ -76,7 +75,7 @@ pub extern "C" fn sambighjone_set_bias_estimate_with_sigma(
     z: f64,
     sigma: f64,
 ) -> u32
-    ensures { told result image.new ≡ fed (λ f. set_bias_estimate binary64 f (vector x y z) (Given sigma)) image.old }
+    ensures { told result image.new ≡ fed (λ f. set_bias_estimate binary64 f (vector x y z) (Some sigma)) image.old }
 {
     sambighjone::set::sambighjone_set_bias_estimate_with_sigma(image, x, y, z, sigma)
 }

@@ -1,5 +1,5 @@
 -- What a line of a script asks for.
-use Rattle.std.specs.Prelude.{Bool, false, cond, List, ℕ, eqb, get_or, Float}
+use Rattle.std.specs.Prelude.{Bool, false, cond, List, ℕ, eqb, get_or, Option, None, Some, Float}
 use Rattle.std.specs.Float.{nan, binary64}
 use Rattle.std.specs.Float.Ieee.{eq}
 use Rattle.floats.specs.Notation.{one}
@@ -9,18 +9,10 @@ use Rattle.numbers.specs.Exponential.{exp}
 use Rattle.numbers.specs.Arcs.{asin, acos, atan2}
 use Rattle.algebra.specs.Vectors.{vector}
 use Rattle.algebra.specs.declared.vector.Vector.{Vector}
-use Rattle.inertial.specs.declared.setters.Sigma.{Sigma}
-use Rattle.inertial.specs.declared.setters.Sigma.TheVariants as sigmas
 use Rattle.tilt.specs.declared.types.RestParams.{RestParams}
 use Rattle.inertial.specs.declared.types.BiasParams.{BiasParams}
 use Rattle.magnetic.specs.declared.types.MagneticParams.{MagneticParams}
 use Rattle.vqf.specs.declared.types.Params.{Params}
-use Rattle.vqf.specs.declared.types.Interval.{Interval}
-use Rattle.vqf.specs.declared.types.Interval.TheVariants as intervals
-use Rattle.vqf.specs.declared.types.Sample.{Sample}
-use Rattle.vqf.specs.declared.types.Sample.TheVariants as sample_variants
-use Rattle.vqf.specs.declared.types.Settings.{Settings}
-use Rattle.vqf.specs.declared.types.Settings.TheVariants as settings_variants
 use Rattle.script.specs.Names.{GYR, GYRTS, ACC, TAU_ACC, TAU_MAG, MOTION, REST, DIST, TH, MAGREF, STATE, GET, SQRT, SIN, COS, TAN, EXP, ASIN, most}
 use Rattle.script.specs.Lines.{is_complete, missing}
 use Rattle.script.specs.declared.line.Line.{Line}
@@ -40,14 +32,14 @@ vector_at values i j k = vector (value values i) (value values j) (value values 
 abbrev pub switch : Float → Bool
 switch x = eq x (one binary64)
 
-abbrev pub interval : Bool → Float → Interval
-interval is_absent x = cond is_absent intervals.Absent (intervals.Given x)
+abbrev pub interval : Bool → Float → Option Float
+interval is_absent x = cond is_absent None (Some x)
 
-abbrev pub sample : Bool → Vector → Sample
-sample is_absent v = cond is_absent sample_variants.Absent (sample_variants.Given v)
+abbrev pub sample : Bool → Vector → Option Vector
+sample is_absent v = cond is_absent None (Some v)
 
-abbrev pub sigma : Bool → Float → Sigma
-sigma is_absent x = cond is_absent sigmas.Absent (sigmas.Given x)
+abbrev pub sigma : Bool → Float → Option Float
+sigma is_absent x = cond is_absent None (Some x)
 
 -- ---- the settings, in the order of the source
 unfoldable pub rest_params : List Float → RestParams
@@ -92,8 +84,8 @@ params values = record {
   magnetic = magnetic_params values;
 }
 
-unfoldable pub settings : Bool → List Float → Settings
-settings is_house values = cond is_house settings_variants.Absent (settings_variants.Given (params values))
+unfoldable pub settings : Bool → List Float → Option Params
+settings is_house values = cond is_house None (Some (params values))
 
 -- ---- by how many words the name takes
 unfoldable pub of_nothing : ℕ → Request

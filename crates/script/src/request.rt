@@ -12,18 +12,17 @@ use crate::names::{
 };
 use algebra::Vector;
 use inertial::InertialParams;
-use inertial::setters::Sigma;
 use inertial::types::BiasParams;
 use magnetic::MagneticParams;
 use tilt::RestParams;
-use vqf::{Interval, Params, Sample, Settings};
+use vqf::Params;
 
 #[derive(Clone, Copy)]
 pub struct Construction {
     pub gyr_ts: f64,
-    pub acc_ts: Interval,
-    pub mag_ts: Interval,
-    pub settings: Settings,
+    pub acc_ts: Option<f64>,
+    pub mag_ts: Option<f64>,
+    pub settings: Option<Params>,
 }
 
 // A call with one answer.
@@ -40,7 +39,7 @@ pub enum Call {
     Rest(bool),
     Dist(bool),
     Thresholds(f64, f64),
-    Bias(Vector, Sigma),
+    Bias(Vector, Option<f64>),
     MagRef(f64, f64),
     Reset,
 }
@@ -49,7 +48,7 @@ pub enum Call {
 pub struct Samples {
     pub gyr: Vector,
     pub acc: Vector,
-    pub mag: Sample,
+    pub mag: Option<Vector>,
 }
 
 #[derive(Clone, Copy)]
@@ -71,34 +70,22 @@ fn switch(x: f64) -> bool
     x == 1.0
 }
 
-fn interval(is_absent: bool, x: f64) -> Interval
+fn interval(is_absent: bool, x: f64) -> Option<f64>
     ensures { result ≡ interval is_absent x }
 {
-    if is_absent {
-        Interval::Absent
-    } else {
-        Interval::Given(x)
-    }
+    if is_absent { None } else { Some(x) }
 }
 
-fn sample(is_absent: bool, v: Vector) -> Sample
+fn sample(is_absent: bool, v: Vector) -> Option<Vector>
     ensures { result ≡ sample is_absent v }
 {
-    if is_absent {
-        Sample::Absent
-    } else {
-        Sample::Given(v)
-    }
+    if is_absent { None } else { Some(v) }
 }
 
-fn sigma(is_absent: bool, x: f64) -> Sigma
+fn sigma(is_absent: bool, x: f64) -> Option<f64>
     ensures { result ≡ sigma is_absent x }
 {
-    if is_absent {
-        Sigma::Absent
-    } else {
-        Sigma::Given(x)
-    }
+    if is_absent { None } else { Some(x) }
 }
 
 fn rest_params(values: [f64; 28]) -> RestParams
@@ -160,14 +147,10 @@ fn params(values: [f64; 28]) -> Params
     Params { inertial, magnetic }
 }
 
-fn settings(is_house: bool, values: [f64; 28]) -> Settings
+fn settings(is_house: bool, values: [f64; 28]) -> Option<Params>
     ensures { result ≡ settings is_house values }
 {
-    if is_house {
-        Settings::Absent
-    } else {
-        Settings::Given(params(values))
-    }
+    if is_house { None } else { Some(params(values)) }
 }
 
 fn of_nothing(name: u64) -> Request

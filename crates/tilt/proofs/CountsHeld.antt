@@ -8,12 +8,13 @@ use Rattle.filters.specs.Banks.{filter_vec3, adapt3}
 use Rattle.filters.specs.Counts.{all_from_zero}
 use Rattle.filters.proofs.Counts.{channels_from_zero, adapted_from_zero, fresh_from_zero}
 use Rattle.filters.specs.declared.coeffs.Coeffs.{Coeffs}
+use Rattle.limits.specs.declared.updated.Tried.{Tried}
 use Rattle.tilt.specs.Rest.{broken}
 use Rattle.tilt.specs.Gyr.{gyr_rest, gyr_filtered, gyr_stirred}
 use Rattle.tilt.specs.Acc.{acc_rest, acc_filtered, counted, acc_stirred, inclined, acc_lowpassed}
 use Rattle.tilt.specs.Setup.{fresh_rest, fresh_inclination}
 use Rattle.tilt.specs.Setters.{adapted_inclination}
-use Rattle.tilt.specs.Types.{Inclination, Rest, RestParams, TriedRest}
+use Rattle.tilt.specs.Types.{Inclination, Rest, RestParams}
 
 abbrev pub InclinationHeld : Inclination → Type 0
 InclinationHeld i = T (all_from_zero 3 i.acc_lp_state)
@@ -26,8 +27,8 @@ module _ (w : Format) where
   abbrev pub RestHeld : Rest → Type 0
   RestHeld r = T (le (zero w) r.rest_t) × T (all_from_zero 3 r.rest_gyr_lp_state) × T (all_from_zero 3 r.rest_acc_lp_state)
 
-  abbrev TriedHeld : TriedRest → Type 0
-  TriedHeld t = RestHeld t.rest
+  abbrev TriedHeld : Tried Rest → Type 0
+  TriedHeld t = RestHeld t.value
 
   pub rest_fresh : RestHeld (fresh_rest w)
   unfolding fresh_rest

@@ -9,12 +9,13 @@ use Rattle.filters.specs.Channels.{fresh}
 use Rattle.filters.specs.Coefficients.{filter_coeffs}
 use Rattle.filters.specs.declared.channel.Channel.{Channel}
 use Rattle.filters.specs.declared.coeffs.Coeffs.{Coeffs}
+use Rattle.limits.specs.declared.updated.Tried.{Tried}
 use Rattle.tilt.specs.Scalars.{square, radians}
 use Rattle.tilt.specs.Rest.{squared_deviation, broken}
 use Rattle.tilt.specs.Gyr.{gyr_stirred, gyr_rest, gyr_filtered}
 use Rattle.tilt.specs.Acc.{acc_rest, acc_filtered, counted, acc_stirred, acc_tried}
 use Rattle.tilt.specs.RestHistory.{Event, breaks, adds, neither, added_after, any, sums_from, sums, Diary, watched, note_gyr, note_acc, memory, lowpassed, gyr_quiet, acc_quiet, gyr_event, acc_event}
-use Rattle.tilt.specs.Types.{Rest, RestParams, TriedRest}
+use Rattle.tilt.specs.Types.{Rest, RestParams}
 
 -- ---- The events alone: the sum since the last break, and whether a sum has reached `rest_min_t`.
 pub record Clock : Type 0 where
@@ -141,7 +142,7 @@ module _ (w : Format) where
     abbrev seen : Rest → View
     seen = view p gyr_ts acc_ts gyr_lp acc_lp
 
-    pub gyr_rest_moves : seen (gyr_rest w r p gyr_ts gyr_lp x).rest ≡ gyr_seen (seen r) x
+    pub gyr_rest_moves : seen (gyr_rest w r p gyr_ts gyr_lp x).value ≡ gyr_seen (seen r) x
     unfolding gyr_filtered gyr_rest broken
     gyr_rest_moves = go (watched p) (gyr_stirred w p lp.rest_last_squared_deviations.0 lp.rest_last_gyr_lp) _
       where
@@ -149,13 +150,13 @@ module _ (w : Format) where
         lp = gyr_filtered w r p.rest_filter_tau gyr_ts gyr_lp x
 
         go : (on stirred finite : Bool)
-            → seen (cond {A = TriedRest} on (record { finite = finite; rest = cond stirred (broken w lp) lp }) (record { finite = true; rest = r })).rest
+            → seen (cond {A = Tried Rest} on (record { finite = finite; value = cond stirred (broken w lp) lp }) (record { finite = true; value = r })).value
             ≡ cond on (with_memories (seen r) lp.rest_gyr_lp_state r.rest_acc_lp_state (moved_by w (seen r).clock (cond stirred breaks neither))) (seen r)
         go true true finite = refl
         go true false finite = refl
         go false stirred finite = refl
 
-    pub acc_rest_moves : seen (acc_rest w r p acc_ts acc_lp x).rest ≡ acc_seen (seen r) x
+    pub acc_rest_moves : seen (acc_rest w r p acc_ts acc_lp x).value ≡ acc_seen (seen r) x
     unfolding acc_filtered acc_rest counted broken
     acc_rest_moves = go p.rest_bias_est_enabled (acc_stirred w p lp)
       where
@@ -163,7 +164,7 @@ module _ (w : Format) where
         lp = acc_filtered w r p.rest_filter_tau acc_ts acc_lp x
 
         go : (on stirred : Bool)
-            → seen (cond {A = TriedRest} on (cond stirred (acc_tried w (broken w lp)) (acc_tried w (counted w lp p.rest_min_t acc_ts))) (record { finite = true; rest = r })).rest
+            → seen (cond {A = Tried Rest} on (cond stirred (acc_tried w (broken w lp)) (acc_tried w (counted w lp p.rest_min_t acc_ts))) (record { finite = true; value = r })).value
             ≡ cond on (with_memories (seen r) r.rest_gyr_lp_state lp.rest_acc_lp_state (moved_by w (seen r).clock (cond stirred breaks (adds acc_ts)))) (seen r)
         go true true = refl
         go true false = refl

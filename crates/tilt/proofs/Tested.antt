@@ -9,16 +9,17 @@ use Rattle.algebra.specs.Quaternions as quaternions
 use Rattle.algebra.specs.declared.vector.Vector.{Vector}
 use Rattle.algebra.specs.declared.quaternion.Quaternion.{Quaternion}
 use Rattle.filters.specs.declared.coeffs.Coeffs.{Coeffs}
+use Rattle.limits.specs.declared.updated.Tried.{Tried}
 use Rattle.tilt.specs.Rest.{broken}
 use Rattle.tilt.specs.Gyr.{finite_gyr_rest, gyr_stirred, gyr_filtered, gyr_rest, turned, predicted}
 use Rattle.tilt.specs.Acc.{finite_acc_rest, acc_filtered, counted, acc_stirred, acc_rest}
-use Rattle.tilt.specs.Types.{Rest, RestParams, TriedRest, TriedQuat}
+use Rattle.tilt.specs.Types.{Rest, RestParams}
 
 abbrev pub Finite : Rest → Type 0
 Finite r = T (finite_gyr_rest r) × T (finite_acc_rest r)
 
-abbrev pub RestTested : TriedRest → Type 0
-RestTested t = (T t.finite → Finite t.rest) × (Finite t.rest → T t.finite)
+abbrev pub RestTested : Tried Rest → Type 0
+RestTested t = (T t.finite → Finite t.value) × (Finite t.value → T t.finite)
 
 module _ (w : Format) where
   broken_finite : (r : Rest) → Finite r → Finite (broken w r)
@@ -60,8 +61,8 @@ module _ (w : Format) where
         (λ _. h, λ _. tt)
 
   -- ---- the quaternion
-  abbrev pub QuatTested : TriedQuat → Type 0
-  QuatTested t = (T t.finite → T (quaternions.finite t.quat)) × (T (quaternions.finite t.quat) → T t.finite)
+  abbrev pub QuatTested : Tried Quaternion → Type 0
+  QuatTested t = (T t.finite → T (quaternions.finite t.value)) × (T (quaternions.finite t.value) → T t.finite)
 
   pub predicted_tested : (q : Quaternion) (bias gyr : Vector) (ts : Float) → T (quaternions.finite q) → QuatTested (predicted w q bias gyr ts)
   unfolding predicted
@@ -70,4 +71,4 @@ module _ (w : Format) where
       let n = vectors.norm w unbiased in
       let next = turned w q unbiased n ts in
       keeps QuatTested (lt (vectors.epsilon w) n)
-      (record { finite = quaternions.finite next; quat = next }) (record { finite = true; quat = q }) (λ _. (λ g. g, λ g. g)) (λ _. h, λ _. tt)
+      (record { finite = quaternions.finite next; value = next }) (record { finite = true; value = q }) (λ _. (λ g. g, λ g. g)) (λ _. h, λ _. tt)

@@ -17,8 +17,8 @@ use Rattle.algebra.specs.declared.vector.Vector.{Vector}
 use Rattle.algebra.specs.declared.quaternion.Quaternion.{Quaternion}
 use Rattle.algebra.proofs.Normalized.{small, Small, AllSmall, times_finite, normalize_small, small_finite}
 use Rattle.limits.specs.Limits.{shortest_interval, longest_interval, interval_taken}
+use Rattle.limits.specs.declared.updated.Tried.{Tried}
 use Rattle.tilt.specs.Gyr.{turned, predicted}
-use Rattle.tilt.specs.declared.gyr.TriedQuat.{TriedQuat}
 
 abbrev pub Rates : (w : Format) → Vector → Type 0
 Rates w v = Rate w v.0 × Rate w v.1 × Rate w v.2
@@ -73,4 +73,4 @@ module _ (w : Format) where
   unfolding predicted
   predicted_finite q bias gyr ts low r i =
       let v = vectors.both (sub w) gyr bias in
-      keeps (λ (t : TriedQuat). T t.finite) (lt (vectors.epsilon w) (vectors.norm w v)) _ _ (turned_finite q v ts low r i) tt
+      keeps (λ (t : Tried Quaternion). T t.finite) (lt (vectors.epsilon w) (vectors.norm w v)) _ _ (turned_finite q v ts low r i) tt

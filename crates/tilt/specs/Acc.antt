@@ -14,12 +14,12 @@ use Rattle.algebra.specs.declared.vector.Vector.{Vector}
 use Rattle.algebra.specs.declared.quaternion.Quaternion.{Quaternion}
 use Rattle.filters.specs.Banks.{filter_vec3, finite_channels}
 use Rattle.filters.specs.declared.coeffs.Coeffs.{Coeffs}
+use Rattle.limits.specs.declared.updated.Tried.{Tried}
 use Rattle.tilt.specs.Scalars.{square}
 use Rattle.tilt.specs.Rest.{squared_deviation, broken}
 use Rattle.tilt.specs.declared.types.Inclination.{Inclination}
 use Rattle.tilt.specs.declared.types.Rest.{Rest}
 use Rattle.tilt.specs.declared.types.RestParams.{RestParams}
-use Rattle.tilt.specs.declared.rest.TriedRest.{TriedRest}
 use Rattle.tilt.specs.declared.acc.TriedInclination.{TriedInclination}
 
 -- the numbers that a sample stores in the rest group and in the inclination
@@ -69,15 +69,15 @@ module _ (w : Format) where
   abbrev pub acc_stirred : RestParams → Rest → Bool
   acc_stirred p r = le (square w p.rest_th_acc) r.rest_last_squared_deviations.1
 
-  abbrev pub acc_tried : Rest → TriedRest
-  acc_tried r = record { finite = finite_acc_rest r; rest = r }
+  abbrev pub acc_tried : Rest → Tried Rest
+  acc_tried r = record { finite = finite_acc_rest r; value = r }
 
-  unfoldable pub acc_rest : Rest → RestParams → Float → Coeffs → Vector → TriedRest
+  unfoldable pub acc_rest : Rest → RestParams → Float → Coeffs → Vector → Tried Rest
   acc_rest r p ts k acc =
       let f = acc_filtered r p.rest_filter_tau ts k acc in
       cond p.rest_bias_est_enabled
       (cond (acc_stirred p f) (acc_tried (broken w f)) (acc_tried (counted f p.rest_min_t ts)))
-      (record { finite = true; rest = r })
+      (record { finite = true; value = r })
 
   unfoldable pub acc_lowpassed : Inclination → Float → Float → Coeffs → Vector → Inclination
   acc_lowpassed i tau ts k acc =

@@ -15,12 +15,11 @@ use Rattle.filters.specs.Banks.{filter_vec3, finite_channels}
 use Rattle.filters.specs.declared.coeffs.Coeffs.{Coeffs}
 use Rattle.limits.specs.Answers.{number}
 use Rattle.limits.specs.Limits.{gyr_taken, interval_taken}
+use Rattle.limits.specs.declared.updated.Tried.{Tried}
 use Rattle.tilt.specs.Scalars.{square, radians}
 use Rattle.tilt.specs.Rest.{squared_deviation, broken}
 use Rattle.tilt.specs.declared.types.Rest.{Rest}
 use Rattle.tilt.specs.declared.types.RestParams.{RestParams}
-use Rattle.tilt.specs.declared.rest.TriedRest.{TriedRest}
-use Rattle.tilt.specs.declared.gyr.TriedQuat.{TriedQuat}
 use Rattle.tilt.specs.declared.gyr.AfterGyr.{AfterGyr}
 
 -- the numbers that a gyro sample stores in the rest group
@@ -64,13 +63,13 @@ module _ (w : Format) where
       }
 
   -- the filter runs at `gyr_ts`, whatever interval the sample came with
-  unfoldable pub gyr_rest : Rest → RestParams → Float → Coeffs → Vector → TriedRest
+  unfoldable pub gyr_rest : Rest → RestParams → Float → Coeffs → Vector → Tried Rest
   gyr_rest r p ts k gyr =
       let f = gyr_filtered r p.rest_filter_tau ts k gyr in
       let stirred = gyr_stirred p f.rest_last_squared_deviations.0 f.rest_last_gyr_lp in
       cond (p.rest_bias_est_enabled || p.mag_dist_rejection_enabled)
-      (record { finite = finite_gyr_rest f; rest = cond stirred (broken w f) f })
-      (record { finite = true; rest = r })
+      (record { finite = finite_gyr_rest f; value = cond stirred (broken w f) f })
+      (record { finite = true; value = r })
 
   unfoldable pub turned : Quaternion → Vector → Float → Float → Quaternion
   turned q gyr n ts =
@@ -79,18 +78,18 @@ module _ (w : Format) where
       let s = sin w (angle ⊘ two w) ⊘ n in
       normalize w (times w q (quaternion c (s ⊗ gyr.0) (s ⊗ gyr.1) (s ⊗ gyr.2)))
 
-  unfoldable pub predicted : Quaternion → Vector → Vector → Float → TriedQuat
+  unfoldable pub predicted : Quaternion → Vector → Vector → Float → Tried Quaternion
   predicted q bias gyr ts =
       let unbiased = both ◌⊖◌ gyr bias in
       let n = norm w unbiased in
       let next = turned q unbiased n ts in
-      cond (lt (epsilon w) n) (record { finite = quaternions.finite next; quat = next }) (record { finite = true; quat = q })
+      cond (lt (epsilon w) n) (record { finite = quaternions.finite next; value = next }) (record { finite = true; value = q })
 
   unfoldable pub gyr_step : Rest → RestParams → Float → Coeffs → Quaternion → Vector → Vector → Float → ToldGyr
   gyr_step rest p gyr_ts k quat bias gyr ts =
       let r = gyr_rest rest p gyr_ts k gyr in
       let q = predicted quat bias gyr ts in
-      cond (r.finite && q.finite) (told_gyr 0 r.rest q.quat) (told_gyr 6 rest quat)
+      cond (r.finite && q.finite) (told_gyr 0 r.value q.value) (told_gyr 6 rest quat)
 
   unfoldable pub update_gyr : Rest → RestParams → Float → Coeffs → Quaternion → Vector → Vector → Float → ToldGyr
   update_gyr rest p gyr_ts k quat bias gyr ts =

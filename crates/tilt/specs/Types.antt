@@ -1,6 +1,4 @@
 -- The types of the code, by their names.
-pub use Rattle.tilt.specs.declared.gyr.TriedQuat.{TriedQuat}
-pub use Rattle.tilt.specs.declared.rest.TriedRest.{TriedRest}
 pub use Rattle.tilt.specs.declared.types.Inclination.{Inclination}
 pub use Rattle.tilt.specs.declared.types.Rest.{Rest}
 pub use Rattle.tilt.specs.declared.types.RestParams.{RestParams}

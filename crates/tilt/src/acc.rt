@@ -3,10 +3,11 @@ ghost use Rattle.std.specs.Prelude.{◌≡◌};
 ghost use Rattle.std.specs.Float.{binary64};
 ghost use Rattle.tilt.specs.Acc.{acc_rest, acc_filtered, counted, finite_acc_rest, inclined, acc_lowpassed, acc_correction, finite_inclination};
 
-use crate::rest::{TriedRest, broken, squared_deviation};
+use crate::rest::{broken, squared_deviation};
 use crate::types::{Inclination, Rest, RestParams};
 use algebra::{Quaternion, Vector};
 use filters::Coeffs;
+use limits::Tried;
 
 // The inclination after a sample, and the sample in the earth frame, of length 1, before the correction.
 #[derive(Clone, Copy)]
@@ -17,7 +18,8 @@ pub struct TriedInclination {
 }
 
 // Rest after an accelerometer sample.
-pub fn acc_rest(rest: Rest, p: RestParams, ts: f64, coeffs: Coeffs, acc: Vector) -> TriedRest
+#[tactic(auto, unfolding(crate::specs::Acc::acc_rest))]
+pub fn acc_rest(rest: Rest, p: RestParams, ts: f64, coeffs: Coeffs, acc: Vector) -> Tried<Rest>
     ensures { result ≡ acc_rest binary64 rest p ts coeffs acc }
 {
     if p.rest_bias_est_enabled {
@@ -26,17 +28,21 @@ pub fn acc_rest(rest: Rest, p: RestParams, ts: f64, coeffs: Coeffs, acc: Vector)
         if deviations.1 >= p.rest_th_acc * p.rest_th_acc {
             let b = broken(f);
             let finite = finite_acc_rest(b);
-            TriedRest { finite, rest: b }
+            Tried { finite, value: b }
         } else {
             let q = counted(f, p.rest_min_t, ts);
             let finite = finite_acc_rest(q);
-            TriedRest { finite, rest: q }
+            Tried { finite, value: q }
         }
     } else {
-        TriedRest { finite: true, rest }
+        Tried {
+            finite: true,
+            value: rest,
+        }
     }
 }
 
+#[tactic(auto, unfolding(crate::specs::Acc::acc_filtered))]
 fn acc_filtered(rest: Rest, tau: f64, ts: f64, coeffs: Coeffs, acc: Vector) -> Rest
     ensures { result ≡ acc_filtered binary64 rest tau ts coeffs acc }
 {
@@ -54,6 +60,7 @@ fn acc_filtered(rest: Rest, tau: f64, ts: f64, coeffs: Coeffs, acc: Vector) -> R
 }
 
 // A quiet sample's time is added.
+#[tactic(auto, unfolding(crate::specs::Acc::counted))]
 fn counted(rest: Rest, min_t: f64, ts: f64) -> Rest
     ensures { result ≡ counted binary64 rest min_t ts }
 {
@@ -64,6 +71,7 @@ fn counted(rest: Rest, min_t: f64, ts: f64) -> Rest
     r
 }
 
+#[tactic(auto, unfolding(crate::specs::Acc::finite_acc_rest))]
 fn finite_acc_rest(rest: Rest) -> bool
     ensures { result ≡ finite_acc_rest rest }
 {
@@ -77,6 +85,7 @@ fn finite_acc_rest(rest: Rest) -> bool
 }
 
 // The inclination correction.
+#[tactic(auto, unfolding(crate::specs::Acc::inclined))]
 pub fn inclined(i: Inclination, tau: f64, ts: f64, coeffs: Coeffs, acc: Vector) -> TriedInclination
     ensures { result ≡ inclined binary64 i tau ts coeffs acc }
 {
@@ -98,6 +107,7 @@ pub fn inclined(i: Inclination, tau: f64, ts: f64, coeffs: Coeffs, acc: Vector) 
 }
 
 // The sample in the frame of the gyro prediction, low-pass filtered.
+#[tactic(auto, unfolding(crate::specs::Acc::acc_lowpassed))]
 fn acc_lowpassed(i: Inclination, tau: f64, ts: f64, coeffs: Coeffs, acc: Vector) -> Inclination
     ensures { result ≡ acc_lowpassed binary64 i tau ts coeffs acc }
 {
@@ -114,6 +124,7 @@ fn acc_lowpassed(i: Inclination, tau: f64, ts: f64, coeffs: Coeffs, acc: Vector)
 }
 
 // The turn that brings acc_earth up.
+#[tactic(auto, unfolding(crate::specs::Acc::acc_correction))]
 fn acc_correction(acc_earth: Vector) -> Quaternion
     ensures { result ≡ acc_correction binary64 acc_earth }
 {
@@ -125,6 +136,7 @@ fn acc_correction(acc_earth: Vector) -> Quaternion
     }
 }
 
+#[tactic(auto, unfolding(crate::specs::Acc::finite_inclination))]
 fn finite_inclination(i: Inclination) -> bool
     ensures { result ≡ finite_inclination i }
 {

@@ -8,6 +8,7 @@ use crate::types::{Deviations, Inclination, Rest, RestParams};
 use algebra::Quaternion;
 
 // The orientation by gyroscope and accelerometer.
+#[tactic(auto, unfolding(crate::specs::Asked::quat_6d))]
 pub fn quat_6d(i: Inclination) -> Quaternion
     ensures { result ≡ quat_6d binary64 i }
 {
@@ -17,6 +18,7 @@ pub fn quat_6d(i: Inclination) -> Quaternion
 }
 
 // The last deviation of a gyro and of an accelerometer sample, each divided by its threshold.
+#[tactic(auto, unfolding(crate::specs::Asked::relative_rest_deviations))]
 pub fn relative_rest_deviations(rest: Rest, p: RestParams) -> Deviations
     ensures { result ≡ relative_rest_deviations binary64 rest p }
 {

@@ -4,12 +4,12 @@ ghost use Rattle.std.specs.Float.{binary64};
 ghost use Rattle.tilt.specs.Gyr.{after_gyr, update_gyr, gyr_step, gyr_rest, gyr_filtered, finite_gyr_rest, gyr_stirred, predicted, turned};
 
 use crate::angle::radians;
-use crate::rest::{TriedRest, broken, squared_deviation};
+use crate::rest::{broken, squared_deviation};
 use crate::types::{Rest, RestParams};
 use algebra::vector::EPSILON;
 use algebra::{Quaternion, Vector};
 use filters::Coeffs;
-use limits::Answer;
+use limits::{Answer, Tried};
 
 // What a gyro sample leaves of the two things that it changes.
 #[derive(Clone, Copy)]
@@ -19,13 +19,8 @@ pub struct AfterGyr {
     pub quat: Quaternion,
 }
 
-#[derive(Clone, Copy)]
-pub struct TriedQuat {
-    pub finite: bool,
-    pub quat: Quaternion,
-}
-
 // A gyro sample, from all that a filter lends to it; of the bias that is the estimate alone.
+#[tactic(auto, unfolding(crate::specs::Gyr::update_gyr))]
 pub fn update_gyr(
     rest: Rest,
     p: RestParams,
@@ -58,6 +53,7 @@ pub fn update_gyr(
 }
 
 // The step on a sample and an interval that are taken.
+#[tactic(auto, unfolding(crate::specs::Gyr::gyr_step))]
 fn gyr_step(
     rest: Rest,
     p: RestParams,
@@ -73,8 +69,8 @@ fn gyr_step(
     let tried_rest = gyr_rest(rest, p, gyr_ts, coeffs, gyr);
     let tried_quat = predicted(quat, bias, gyr, ts);
     if tried_rest.finite & tried_quat.finite {
-        let next_rest = tried_rest.rest;
-        let next_quat = tried_quat.quat;
+        let next_rest = tried_rest.value;
+        let next_quat = tried_quat.value;
         AfterGyr {
             answer: Answer::Done,
             rest: next_rest,
@@ -90,7 +86,8 @@ fn gyr_step(
 }
 
 // Rest after a gyro sample.
-pub fn gyr_rest(rest: Rest, p: RestParams, ts: f64, coeffs: Coeffs, gyr: Vector) -> TriedRest
+#[tactic(auto, unfolding(crate::specs::Gyr::gyr_rest))]
+pub fn gyr_rest(rest: Rest, p: RestParams, ts: f64, coeffs: Coeffs, gyr: Vector) -> Tried<Rest>
     ensures { result ≡ gyr_rest binary64 rest p ts coeffs gyr }
 {
     if p.rest_bias_est_enabled | p.mag_dist_rejection_enabled {
@@ -100,15 +97,19 @@ pub fn gyr_rest(rest: Rest, p: RestParams, ts: f64, coeffs: Coeffs, gyr: Vector)
         let lp = f.rest_last_gyr_lp;
         if gyr_stirred(p, deviations.0, lp) {
             let b = broken(f);
-            TriedRest { finite, rest: b }
+            Tried { finite, value: b }
         } else {
-            TriedRest { finite, rest: f }
+            Tried { finite, value: f }
         }
     } else {
-        TriedRest { finite: true, rest }
+        Tried {
+            finite: true,
+            value: rest,
+        }
     }
 }
 
+#[tactic(auto, unfolding(crate::specs::Gyr::gyr_filtered))]
 fn gyr_filtered(rest: Rest, tau: f64, ts: f64, coeffs: Coeffs, gyr: Vector) -> Rest
     ensures { result ≡ gyr_filtered binary64 rest tau ts coeffs gyr }
 {
@@ -125,6 +126,7 @@ fn gyr_filtered(rest: Rest, tau: f64, ts: f64, coeffs: Coeffs, gyr: Vector) -> R
     r
 }
 
+#[tactic(auto, unfolding(crate::specs::Gyr::finite_gyr_rest))]
 fn finite_gyr_rest(rest: Rest) -> bool
     ensures { result ≡ finite_gyr_rest rest }
 {
@@ -135,6 +137,7 @@ fn finite_gyr_rest(rest: Rest) -> bool
 }
 
 // The source's test that a gyro sample is not quiet.
+#[tactic(auto, unfolding(crate::specs::Gyr::gyr_stirred))]
 fn gyr_stirred(p: RestParams, deviation: f64, lp: Vector) -> bool
     ensures { result ≡ gyr_stirred binary64 p deviation lp }
 {
@@ -147,7 +150,8 @@ fn gyr_stirred(p: RestParams, deviation: f64, lp: Vector) -> bool
 }
 
 // The gyro prediction, with the bias removed.
-pub fn predicted(quat: Quaternion, bias: Vector, gyr: Vector, ts: f64) -> TriedQuat
+#[tactic(auto, unfolding(crate::specs::Gyr::predicted))]
+pub fn predicted(quat: Quaternion, bias: Vector, gyr: Vector, ts: f64) -> Tried<Quaternion>
     ensures { result ≡ predicted binary64 quat bias gyr ts }
 {
     let unbiased = Vector(gyr.0 - bias.0, gyr.1 - bias.1, gyr.2 - bias.2);
@@ -155,13 +159,20 @@ pub fn predicted(quat: Quaternion, bias: Vector, gyr: Vector, ts: f64) -> TriedQ
     if n > EPSILON {
         let next = turned(quat, unbiased, n, ts);
         let finite = next.finite();
-        TriedQuat { finite, quat: next }
+        Tried {
+            finite,
+            value: next,
+        }
     } else {
-        TriedQuat { finite: true, quat }
+        Tried {
+            finite: true,
+            value: quat,
+        }
     }
 }
 
 // The orientation after turning at the rate gyr, whose norm is n, for ts.
+#[tactic(auto, unfolding(crate::specs::Gyr::turned))]
 fn turned(quat: Quaternion, gyr: Vector, n: f64, ts: f64) -> Quaternion
     ensures { result ≡ turned binary64 quat gyr n ts }
 {

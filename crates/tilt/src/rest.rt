@@ -6,14 +6,8 @@ ghost use Rattle.tilt.specs.Rest.{squared_deviation, broken};
 use crate::types::Rest;
 use algebra::Vector;
 
-// What a step would store of a group, and whether every number of it is finite.
-#[derive(Clone, Copy)]
-pub struct TriedRest {
-    pub finite: bool,
-    pub rest: Rest,
-}
-
 // The square of the distance between a sample and its smoothed value.
+#[tactic(auto, unfolding(crate::specs::Rest::squared_deviation))]
 pub fn squared_deviation(x: Vector, lp: Vector) -> f64
     ensures { result ≡ squared_deviation binary64 x lp }
 {
@@ -24,6 +18,7 @@ pub fn squared_deviation(x: Vector, lp: Vector) -> f64
 }
 
 // Rest after a sample that is not quiet.
+#[tactic(auto, unfolding(crate::specs::Rest::broken))]
 pub fn broken(rest: Rest) -> Rest
     ensures { result ≡ broken binary64 rest }
 {

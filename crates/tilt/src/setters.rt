@@ -6,6 +6,7 @@ use crate::types::Inclination;
 use filters::Coeffs;
 
 // The filter of the acceleration for new coefficients.
+#[tactic(auto, unfolding(crate::specs::Setters::adapted_inclination))]
 pub fn adapted_inclination(i: Inclination, old: Coeffs, new: Coeffs) -> Inclination
     ensures { result ≡ adapted_inclination i old new }
 {

@@ -9,6 +9,7 @@ use filters::Channel;
 use limits::setting;
 
 // Whether all these settings are within their limits; the intervals are in seconds.
+#[tactic(auto, unfolding(crate::specs::Setup::rest_params_taken))]
 pub fn rest_params_taken(p: RestParams, gyr_ts: f64, acc_ts: f64) -> bool
     ensures { result ≡ rest_params_taken binary64 p gyr_ts acc_ts }
 {
@@ -21,6 +22,7 @@ pub fn rest_params_taken(p: RestParams, gyr_ts: f64, acc_ts: f64) -> bool
 
 impl Rest {
     // Before the first sample.
+    #[tactic(auto, unfolding(crate::specs::Setup::fresh_rest))]
     pub fn fresh() -> Rest
         ensures { result ≡ fresh_rest binary64 }
     {
@@ -39,6 +41,7 @@ impl Rest {
 
 impl Inclination {
     // Before the first sample.
+    #[tactic(auto, unfolding(crate::specs::Setup::fresh_inclination))]
     pub fn fresh() -> Inclination
         ensures { result ≡ fresh_inclination binary64 }
     {

@@ -1,6 +1,7 @@
 -- A call's answer is that of the half that it is made on. The parts of an `update` meet filters that hold finite numbers too.
-use Rattle.floats.specs.Prelude.{refl, Bool, Bool_beq, [], ◌∷◌, T, Format}
+use Rattle.floats.specs.Prelude.{refl, Bool, Bool_beq, [], ◌∷◌, T, Format, Option, None, Some}
 use Rattle.floats.specs.Tests.{both, keeps}
+use Rattle.algebra.specs.declared.vector.Vector.{Vector}
 use Rattle.limits.specs.Answers.{Told, told}
 use Rattle.limits.specs.Table.{faultless, Exactly}
 use Rattle.limits.proofs.Table.{exactly}
@@ -16,8 +17,7 @@ use Rattle.vqf.specs.Update as updates
 use Rattle.vqf.specs.Setters as setters
 use Rattle.vqf.specs.Calls.{on_inertial, on_magnetic, update, set_mag_dist_rejection_enabled, reset_state, run}
 use Rattle.vqf.specs.Answers.{inertial_faults, sample_faults, Answers}
-use Rattle.vqf.specs.Types.{VQF, Sample}
-use Rattle.vqf.specs.declared.types.Sample.TheVariants.{Absent, Given}
+use Rattle.vqf.specs.Types.{VQF}
 
 done : Exactly faultless 0
 done = exactly faultless 0 refl
@@ -26,10 +26,10 @@ module _ (w : Format) where
   of_own : (f : VQF) (c : on_half.Own) → T (inertial.all_finite f.inertial) → Exactly (inertial_faults w f c) (on_half.reply w f.inertial (on_half.own c)).number
   of_own f c = (of_inertial.answers w).by_table f.inertial (on_half.own c)
 
-  of_sample : (f : VQF) (m : Sample) → T (magnetic.all_finite f.magnetic) → Exactly (sample_faults w f m) (updates.update_sample w f m).number
+  of_sample : (f : VQF) (m : Option Vector) → T (magnetic.all_finite f.magnetic) → Exactly (sample_faults w f m) (updates.update_sample w f m).number
   unfolding updates.update_sample updates.update_mag
-  of_sample f Absent h = done
-  of_sample f (Given v) h = (of_magnetic.answers w).by_table f.magnetic (updates.seen w f.inertial) (update_mag v) h
+  of_sample f None h = done
+  of_sample f (Some v) h = (of_magnetic.answers w).by_table f.magnetic (updates.seen w f.inertial) (update_mag v) h
 
   of_switch : (f : VQF) (on : Bool) → Exactly faultless (setters.set_mag_dist_rejection_enabled w f on).number
   unfolding setters.set_mag_dist_rejection_enabled

@@ -1,6 +1,6 @@
 -- Construction answers 0 or 4, leaves the fresh house filter beside a 4, and nothing but finite numbers.
 -- Each follows from the one test of `new`, whichever way it turns out.
-use Rattle.floats.specs.Prelude.{◌≡◌, refl, ◌⊎◌, inl, inr, Bool, true, false, cond, T, Float, Format, binary32, binary64, neg, le, of_bits}
+use Rattle.floats.specs.Prelude.{◌≡◌, refl, ◌⊎◌, inl, inr, Bool, true, false, cond, T, Float, Format, binary32, binary64, neg, le, of_bits, Option}
 use Rattle.floats.specs.Definitions.{larger}
 use Rattle.floats.specs.Tests.{both, keeps}
 use Rattle.limits.specs.Answers.{Told, told}
@@ -13,7 +13,7 @@ use Rattle.magnetic.proofs.Construction as magnetic_built
 use Rattle.vqf.specs.Build.{house_interval, house, interval_or, settings_or_house, taken, built, fresh, new}
 use Rattle.vqf.specs.AllFinite.{all_finite}
 use Rattle.vqf.specs.Construction.{all_taken, Construction}
-use Rattle.vqf.specs.Types.{Interval, Params, Settings, VQF}
+use Rattle.vqf.specs.Types.{Params, VQF}
 
 abbrev answer : Bool → VQF → VQF → Told VQF
 answer b f g = cond b (told 0 f) (told 4 g)
@@ -41,7 +41,7 @@ built_finite w p gyr_ts acc_ts mag_ts t =
     let h = simp both at t in
     simp both (inertial_built.new_finite w p.inertial gyr_ts acc_ts h.0, magnetic_built.new_finite w p.magnetic mag_ts h.1)
 
-zero_or_four : (w : Format) (gyr_ts : Float) (acc_ts mag_ts : Interval) (given : Settings)
+zero_or_four : (w : Format) (gyr_ts : Float) (acc_ts mag_ts : Option Float) (given : Option Params)
     → let b = all_taken w gyr_ts acc_ts mag_ts given in
     let n = (new w gyr_ts acc_ts mag_ts given).number in
     ((b ≡ true) × (n ≡ 0)) ⊎ ((b ≡ false) × (n ≡ 4))

@@ -1,5 +1,5 @@
 -- Both halves of a filter that is reached were reached by calls that keep their bounds (BiasHeld and CountsHeld of `inertial`, HowFar of `magnetic`).
-use Rattle.floats.specs.Prelude.{◌≡◌, ap, ◌∙◌, List, Float, Format}
+use Rattle.floats.specs.Prelude.{◌≡◌, ap, ◌∙◌, List, Float, Format, Option}
 use Rattle.floats.specs.Tests.{keeps}
 use Rattle.limits.specs.Answers.{Told}
 use Rattle.inertial.specs.declared.types.Inertial.{Inertial}
@@ -16,7 +16,7 @@ use Rattle.vqf.specs.Update.{seen, update_mag}
 use Rattle.vqf.specs.Calls.{Call, inertial_calls, run}
 use Rattle.vqf.specs.Construction.{all_taken}
 use Rattle.vqf.specs.HowFar.{clip_of, Bounded, HowFar}
-use Rattle.vqf.specs.Types.{VQF, Params, Interval, Settings}
+use Rattle.vqf.specs.Types.{VQF, Params}
 use Rattle.vqf.proofs.InertialRun.{inertial_run}
 use Rattle.vqf.proofs.Reached.{reached}
 use Rattle.vqf.proofs.MagneticReached.{magnetic_reached}
@@ -52,7 +52,7 @@ module _ (w : Format) where
       ap (λ (i : Inertial). i.params.rest.bias_clip) (inertial_run w (built w p gyr_ts acc_ts mag_ts) calls).half
       ∙ (bias_limit w).kept p.inertial gyr_ts acc_ts (inertial_calls calls)
 
-  clip_kept : (gyr_ts : Float) (acc_ts mag_ts : Interval) (given : Settings) (calls : List Call) → let f = (new w gyr_ts acc_ts mag_ts given).left in clip_of (run w f calls) ≡ clip_of f
+  clip_kept : (gyr_ts : Float) (acc_ts mag_ts : Option Float) (given : Option Params) (calls : List Call) → let f = (new w gyr_ts acc_ts mag_ts given).left in clip_of (run w f calls) ≡ clip_of f
   unfolding new fresh
   clip_kept gyr_ts acc_ts mag_ts given calls =
       keeps (λ (t : Told VQF). clip_of (run w t.left calls) ≡ clip_of t.left) (all_taken w gyr_ts acc_ts mag_ts given) _ _

@@ -1,7 +1,8 @@
 -- What the calls leave of the inertial half, and what they answer there, is what the inertial half itself leaves and answers: a call on it is given
 -- the inertial half alone, and a magnetic call gives it back.
-use Rattle.floats.specs.Prelude.{◌≡◌, refl, sym, ap, ap₂, ◌∙◌, Bool, true, false, cond, Bool_beq, List, [], ◌∷◌, ◌++◌, append_assoc, arith, T, take, Float, Format}
+use Rattle.floats.specs.Prelude.{◌≡◌, refl, sym, ap, ap₂, ◌∙◌, Bool, true, false, cond, Bool_beq, List, [], ◌∷◌, ◌++◌, append_assoc, arith, T, take, Float, Format, Option, None, Some}
 use Rattle.floats.specs.Tests.{keeps}
+use Rattle.algebra.specs.declared.vector.Vector.{Vector}
 use Rattle.limits.specs.Answers.{Told}
 use Rattle.inertial.specs.Calls as inertial
 use Rattle.inertial.specs.Setters as on_inertial
@@ -16,8 +17,7 @@ use Rattle.vqf.specs.Setters as setters
 use Rattle.vqf.specs.Calls.{Call, on_inertial, on_magnetic, update, set_mag_dist_rejection_enabled, reset_state, inertial_part, inertial_calls, reply, run}
 use Rattle.vqf.specs.Struck.{magnetic, without_sample, struck, plain_answers}
 use Rattle.vqf.specs.Apart.{Built}
-use Rattle.vqf.specs.Types.{VQF, Interval, Settings, Sample}
-use Rattle.vqf.specs.declared.types.Sample.TheVariants.{Absent, Given}
+use Rattle.vqf.specs.Types.{VQF, Params}
 
 -- what is struck out does not reach the inertial half
 one_struck : (c : Call) (cs : List Call) → inertial_calls (cond (magnetic c) cs (without_sample c ∷ cs)) ≡ inertial_part c ++ inertial_calls cs
@@ -36,10 +36,10 @@ module _ (w : Format) where
     pub half : (run w f cs).inertial ≡ inertial.run w f.inertial ds
     pub numbers : plain_answers w f cs ≡ inertial.answers w f.inertial ds
 
-  sample_left : (f : VQF) (s : Sample) → (updates.update_sample w f s).left.inertial ≡ f.inertial
+  sample_left : (f : VQF) (s : Option Vector) → (updates.update_sample w f s).left.inertial ≡ f.inertial
   unfolding updates.update_sample updates.update_mag
-  sample_left f Absent = refl
-  sample_left f (Given v) = refl
+  sample_left f None = refl
+  sample_left f (Some v) = refl
 
   -- the disturbance switch, set or left as it is, is what the inertial half is told
   switched : (f : VQF) (on : Bool)
@@ -86,7 +86,7 @@ module _ (w : Format) where
       }
 
   -- what an accepted construction gives of the inertial half
-  pub built_half : (gyr_ts : Float) (acc_given mag_given : Interval) (given : Settings) → (new w gyr_ts acc_given mag_given given).number ≡ 0
+  pub built_half : (gyr_ts : Float) (acc_given mag_given : Option Float) (given : Option Params) → (new w gyr_ts acc_given mag_given given).number ≡ 0
       → (new w gyr_ts acc_given mag_given given).left.inertial ≡ setup.new w (settings_or_house w given).inertial gyr_ts (interval_or acc_given gyr_ts)
   unfolding new built
   built_half gyr_ts acc_given mag_given given =

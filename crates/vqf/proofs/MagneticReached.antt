@@ -1,7 +1,8 @@
 -- The magnetic half of every filter that is reached keeps its bounds: a refused construction leaves the house filter, and a call is made on the half as it stands
 -- or leaves it.
-use Rattle.floats.specs.Prelude.{Bool, Bool_beq, List, [], ◌∷◌, T, Float, Format}
+use Rattle.floats.specs.Prelude.{Bool, Bool_beq, List, [], ◌∷◌, T, Float, Format, Option, None, Some}
 use Rattle.floats.specs.Tests.{both, keeps}
+use Rattle.algebra.specs.declared.vector.Vector.{Vector}
 use Rattle.limits.specs.Answers.{Told, told}
 use Rattle.magnetic.specs.Calls.{update_mag}
 use Rattle.magnetic.proofs.HowFar as of_half
@@ -10,18 +11,17 @@ use Rattle.vqf.specs.Update as updates
 use Rattle.vqf.specs.Setters as setters
 use Rattle.vqf.specs.Calls.{Call, on_inertial, on_magnetic, update, set_mag_dist_rejection_enabled, reset_state, reply, run}
 use Rattle.vqf.specs.Construction.{all_taken}
-use Rattle.vqf.specs.Types.{VQF, Params, Interval, Settings, Sample}
-use Rattle.vqf.specs.declared.types.Sample.TheVariants.{Absent, Given}
+use Rattle.vqf.specs.Types.{VQF, Params}
 use Rattle.vqf.proofs.Construction.{house_within}
 
 module _ (w : Format) where
   abbrev Half : VQF → Type 0
   Half f = of_half.Held w f.magnetic
 
-  sample : (f : VQF) (m : Sample) → Half f → Half (updates.update_sample w f m).left
+  sample : (f : VQF) (m : Option Vector) → Half f → Half (updates.update_sample w f m).left
   unfolding updates.update_sample updates.update_mag
-  sample f Absent h = h
-  sample f (Given v) h = of_half.call_held w f.magnetic h (updates.seen w f.inertial) (update_mag v)
+  sample f None h = h
+  sample f (Some v) h = of_half.call_held w f.magnetic h (updates.seen w f.inertial) (update_mag v)
 
   switched : (f : VQF) (on : Bool) → Half f → Half (setters.set_mag_dist_rejection_enabled w f on).left
   unfolding setters.set_mag_dist_rejection_enabled
@@ -43,7 +43,7 @@ module _ (w : Format) where
   unfolding taken built
   of_built p gyr_ts acc_ts mag_ts t = of_half.new_held w p.magnetic mag_ts (simp both at t).1
 
-  pub magnetic_reached : (gyr_ts : Float) (acc_ts mag_ts : Interval) (given : Settings) (calls : List Call) → Half (run w (new w gyr_ts acc_ts mag_ts given).left calls)
+  pub magnetic_reached : (gyr_ts : Float) (acc_ts mag_ts : Option Float) (given : Option Params) (calls : List Call) → Half (run w (new w gyr_ts acc_ts mag_ts given).left calls)
   unfolding new fresh
   magnetic_reached gyr_ts acc_ts mag_ts given calls =
       steps _ calls

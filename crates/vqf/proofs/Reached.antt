@@ -1,6 +1,6 @@
 -- What holds of the inertial half after an accepted construction and any calls on it holds of that of every filter that is reached: a refused construction leaves the
 -- house filter, and of the calls the half gets its own.
-use Rattle.floats.specs.Prelude.{sym, subst, List, T, Float, Format}
+use Rattle.floats.specs.Prelude.{sym, subst, List, T, Float, Format, Option}
 use Rattle.floats.specs.Tests.{both, keeps}
 use Rattle.limits.specs.Answers.{Told}
 use Rattle.inertial.specs.Setup as setup
@@ -10,7 +10,7 @@ use Rattle.inertial.specs.declared.types.InertialParams.{InertialParams}
 use Rattle.vqf.specs.Build.{house, interval_or, settings_or_house, taken, built, fresh, new}
 use Rattle.vqf.specs.Calls.{Call, inertial_calls, run}
 use Rattle.vqf.specs.Construction.{all_taken}
-use Rattle.vqf.specs.Types.{VQF, Params, Interval, Settings}
+use Rattle.vqf.specs.Types.{VQF, Params}
 use Rattle.vqf.proofs.Construction.{house_within}
 use Rattle.vqf.proofs.InertialRun.{inertial_run}
 
@@ -22,7 +22,7 @@ module _ (w : Format) (P : Inertial → Type 0)
     from_built p gyr_ts acc_ts mag_ts calls t =
         subst P (sym (inertial_run w (built w p gyr_ts acc_ts mag_ts) calls).half) (always p.inertial gyr_ts acc_ts (inertial_calls calls) (simp both at t).0)
 
-    pub reached : (gyr_ts : Float) (acc_ts mag_ts : Interval) (given : Settings) (calls : List Call) → P (run w (new w gyr_ts acc_ts mag_ts given).left calls).inertial
+    pub reached : (gyr_ts : Float) (acc_ts mag_ts : Option Float) (given : Option Params) (calls : List Call) → P (run w (new w gyr_ts acc_ts mag_ts given).left calls).inertial
     unfolding new fresh
     reached gyr_ts acc_ts mag_ts given calls =
         keeps (λ (t : Told VQF). P (run w t.left calls).inertial) (all_taken w gyr_ts acc_ts mag_ts given) _ _

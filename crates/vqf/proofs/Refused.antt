@@ -1,6 +1,6 @@
 -- A refused call on one half leaves that half as it was (`kept` of `inertial` and `magnetic`), and it is put back beside the other. What acts on both halves
 -- is never refused.
-use Rattle.floats.specs.Prelude.{refl, ◌∙◌, Bool, Bool_beq, Format}
+use Rattle.floats.specs.Prelude.{refl, ◌∙◌, Bool, Bool_beq, Format, Option, None, Some}
 use Rattle.floats.specs.Tests.{keeps}
 use Rattle.algebra.specs.declared.vector.Vector.{Vector}
 use Rattle.limits.specs.Answers.{Told, Kept}
@@ -15,8 +15,7 @@ use Rattle.vqf.specs.Update as updates
 use Rattle.vqf.specs.Setters as setters
 use Rattle.vqf.specs.Calls.{on_inertial, on_magnetic, update, set_mag_dist_rejection_enabled, reset_state}
 use Rattle.vqf.specs.Refused.{Unchanged, Threefold, Refused}
-use Rattle.vqf.specs.Types.{VQF, Sample}
-use Rattle.vqf.specs.declared.types.Sample.TheVariants.{Absent, Given}
+use Rattle.vqf.specs.Types.{VQF}
 
 whole_inertial : (f : VQF) (t : Told Inertial) → Kept f.inertial t → Kept f (inertially f t)
 whole_inertial f t k h i = record { inertial = k h i; magnetic = f.magnetic }
@@ -31,10 +30,10 @@ module _ (w : Format) where
   magnetic_kept : (f : VQF) (c : magnetic.Call) → Kept f (magnetically f (magnetic.reply w f.magnetic (updates.seen w f.inertial) c))
   magnetic_kept f c = whole_magnetic f _ ((of_magnetic.answers w).kept f.magnetic (updates.seen w f.inertial) c)
 
-  sample_kept : (f : VQF) (m : Sample) → Kept f (updates.update_sample w f m)
+  sample_kept : (f : VQF) (m : Option Vector) → Kept f (updates.update_sample w f m)
   unfolding updates.update_sample updates.update_mag
-  sample_kept f Absent h = refl
-  sample_kept f (Given v) h = magnetic_kept f (magnetic.update_mag v) h
+  sample_kept f None h = refl
+  sample_kept f (Some v) h = magnetic_kept f (magnetic.update_mag v) h
 
   switch_kept : (f : VQF) (on : Bool) → Kept f (setters.set_mag_dist_rejection_enabled w f on)
   unfolding setters.set_mag_dist_rejection_enabled

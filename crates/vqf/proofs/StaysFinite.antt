@@ -1,6 +1,6 @@
 -- A filter that was built holds finite numbers, and each call keeps them so: the half that it is made on by the lemmas of that half, the other half as it was.
 -- A bias is held to the clip, which is finite in radians because a construction took it and no call changes it.
-use Rattle.floats.specs.Prelude.{Bool, Bool_beq, List, [], ◌∷◌, T, Float, Format, and_i}
+use Rattle.floats.specs.Prelude.{Bool, Bool_beq, List, [], ◌∷◌, T, Float, Format, and_i, Option, None, Some}
 use Rattle.floats.specs.Tests.{both, keeps}
 use Rattle.algebra.specs.declared.vector.Vector.{Vector}
 use Rattle.limits.specs.Answers.{Told, told}
@@ -22,8 +22,7 @@ use Rattle.vqf.specs.Update as updates
 use Rattle.vqf.specs.Setters as setters
 use Rattle.vqf.specs.Calls.{Call, on_inertial, on_magnetic, update, set_mag_dist_rejection_enabled, reset_state, reply, run}
 use Rattle.vqf.specs.StaysFinite.{StaysFinite}
-use Rattle.vqf.specs.Types.{VQF, Interval, Settings, Sample}
-use Rattle.vqf.specs.declared.types.Sample.TheVariants.{Absent, Given}
+use Rattle.vqf.specs.Types.{VQF, Params}
 use Rattle.vqf.proofs.Construction.{construction}
 use Rattle.vqf.proofs.Reached.{reached}
 
@@ -57,7 +56,7 @@ module _ (w : Format) where
   abbrev Clipped : VQF → Type 0
   Clipped f = (calls : List Call) → ClipTaken w (run w f calls).inertial
 
-  leaves_clipped : (gyr_ts : Float) (acc_ts mag_ts : Interval) (given : Settings) → Clipped (new w gyr_ts acc_ts mag_ts given).left
+  leaves_clipped : (gyr_ts : Float) (acc_ts mag_ts : Option Float) (given : Option Params) → Clipped (new w gyr_ts acc_ts mag_ts given).left
   leaves_clipped = reached w (ClipTaken w) (λ p gyr_ts acc_ts calls t. (reached_held w p gyr_ts acc_ts calls t).0)
 
   -- ---- the calls
@@ -77,10 +76,10 @@ module _ (w : Format) where
   unfolding updates.update_mag
   mag f v h = put_magnetic f _ h (of_magnetic.update_mag_finite w f.magnetic (updates.seen w f.inertial) v (magnetic_half f h))
 
-  sample : (f : VQF) (m : Sample) → Finite f → Finite (updates.update_sample w f m).left
+  sample : (f : VQF) (m : Option Vector) → Finite f → Finite (updates.update_sample w f m).left
   unfolding updates.update_sample
-  sample f Absent h = h
-  sample f (Given v) h = mag f v h
+  sample f None h = h
+  sample f (Some v) h = mag f v h
 
   switched : (f : VQF) (on : Bool) → Finite f → Finite (setters.set_mag_dist_rejection_enabled w f on).left
   unfolding setters.set_mag_dist_rejection_enabled

@@ -1,5 +1,5 @@
 -- Asked at any time, the filter answers with finite numbers, whatever was given to the constructor and to the calls before.
-use Rattle.std.specs.Prelude.{List, T, Float}
+use Rattle.std.specs.Prelude.{List, T, Option, Float}
 use Rattle.std.specs.Float.{Format}
 use Rattle.std.specs.Float.Ieee.Scale.{finite}
 use Rattle.algebra.specs.Vectors as vectors
@@ -8,8 +8,7 @@ use Rattle.vqf.specs.Asked as asked
 use Rattle.vqf.specs.Build.{new}
 use Rattle.vqf.specs.Calls.{Call, run}
 use Rattle.vqf.specs.declared.types.VQF.{VQF}
-use Rattle.vqf.specs.declared.types.Interval.{Interval}
-use Rattle.vqf.specs.declared.types.Settings.{Settings}
+use Rattle.vqf.specs.declared.types.Params.{Params}
 
 pub record AnswersFinite (w : Format) (f : VQF) : Type 0 where
   pub quat_3d : T (quaternions.finite (asked.quat_3d f))
@@ -25,5 +24,5 @@ pub record AnswersFinite (w : Format) (f : VQF) : Type 0 where
 
 abbrev pub AnswersStayFinite : Format → Type 0
 AnswersStayFinite w =
-    (gyr_ts : Float) (acc_ts mag_ts : Interval) (given : Settings) (calls : List Call)
+    (gyr_ts : Float) (acc_ts mag_ts : Option Float) (given : Option Params) (calls : List Call)
     → AnswersFinite w (run w (new w gyr_ts acc_ts mag_ts given).left calls)

@@ -1,5 +1,5 @@
 -- Steel cannot touch the tilt: what the magnetic calls, the magnetic settings and the magnetometer's interval do not reach.
-use Rattle.std.specs.Prelude.{◌≡◌, List, Float}
+use Rattle.std.specs.Prelude.{◌≡◌, List, Option, Float}
 use Rattle.std.specs.Float.{Format}
 use Rattle.limits.specs.Answers.{told}
 use Rattle.inertial.specs.declared.types.InertialParams.{InertialParams}
@@ -7,8 +7,7 @@ use Rattle.vqf.specs.Build.{interval_or, settings_or_house, new}
 use Rattle.vqf.specs.Calls.{Call, run}
 use Rattle.vqf.specs.Struck.{struck, plain_answers}
 use Rattle.vqf.specs.declared.types.VQF.{VQF}
-use Rattle.vqf.specs.declared.types.Interval.{Interval}
-use Rattle.vqf.specs.declared.types.Settings.{Settings}
+use Rattle.vqf.specs.declared.types.Params.{Params}
 
 -- the filters whose tilt, bias, covariance and rest flag agree, with all else that the inertial half holds; "Tilt means `acc_quat` and `gyr_quat`"
 pub record SameTilt (f g : VQF) : Type 0 where
@@ -23,9 +22,9 @@ module _ (w : Format) where
   -- f is what an accepted construction gives, with these intervals (absent ones filled in) and these non-magnetic settings, among them the
   -- disturbance switch, "which also starts the gyro rest filter and so must agree"; the magnetic ones may be any that are taken
   pub record Built (gyr_ts acc_ts : Float) (p : InertialParams) (f : VQF) : Type 0 where
-    pub acc_given : Interval
-    pub mag_given : Interval
-    pub settings : Settings
+    pub acc_given : Option Float
+    pub mag_given : Option Float
+    pub settings : Option Params
     pub accepted : new w gyr_ts acc_given mag_given settings ≡ told 0 f
     pub same_acc_ts : interval_or acc_given gyr_ts ≡ acc_ts
     pub same_settings : (settings_or_house w settings).inertial ≡ p

@@ -1,5 +1,5 @@
 -- How far heading and bias can go: what holds after any calls on a filter that was built, setters and refused calls among them, over the format w.
-use Rattle.std.specs.Prelude.{◌≡◌, List, T, Float}
+use Rattle.std.specs.Prelude.{◌≡◌, List, T, Option, Float}
 use Rattle.std.specs.Float.{Format}
 use Rattle.std.specs.Float.Ieee.{le, fits}
 use Rattle.floats.specs.Notation.{rounded, zero}
@@ -16,8 +16,7 @@ use Rattle.vqf.specs.Update.{seen, update_mag}
 use Rattle.vqf.specs.Calls.{Call, run}
 use Rattle.vqf.specs.StaysFinite.{StaysFinite}
 use Rattle.vqf.specs.declared.types.VQF.{VQF}
-use Rattle.vqf.specs.declared.types.Interval.{Interval}
-use Rattle.vqf.specs.declared.types.Settings.{Settings}
+use Rattle.vqf.specs.declared.types.Params.{Params}
 
 abbrev pub clip_of : VQF → Float
 clip_of f = f.inertial.params.rest.bias_clip
@@ -55,12 +54,12 @@ module _ (w : Format) where
 
 -- whether the construction was accepted or gave the house filter beside its 4
 pub record HowFar : Type 0 where
-  pub bounded : (w : Format) (gyr_ts : Float) (acc_ts mag_ts : Interval) (given : Settings) (calls : List Call) → Bounded w (run w (new w gyr_ts acc_ts mag_ts given).left calls)
+  pub bounded : (w : Format) (gyr_ts : Float) (acc_ts mag_ts : Option Float) (given : Option Params) (calls : List Call) → Bounded w (run w (new w gyr_ts acc_ts mag_ts given).left calls)
   -- the clip is the filter's own: no call changes it
-  pub clip_kept : (w : Format) (gyr_ts : Float) (acc_ts mag_ts : Interval) (given : Settings) (calls : List Call)
+  pub clip_kept : (w : Format) (gyr_ts : Float) (acc_ts mag_ts : Option Float) (given : Option Params) (calls : List Call)
       → let f = (new w gyr_ts acc_ts mag_ts given).left in clip_of (run w f calls) ≡ clip_of f
   -- "every stored number is finite". The covariance has no other bound; the sigma that is told of it is no larger than that of the first covariance
   pub finite : (w : Format) → StaysFinite w
-  pub sigma : (w : Format) (gyr_ts : Float) (acc_ts mag_ts : Interval) (given : Settings) (calls : List Call)
+  pub sigma : (w : Format) (gyr_ts : Float) (acc_ts mag_ts : Option Float) (given : Option Params) (calls : List Call)
       → let f = run w (new w gyr_ts acc_ts mag_ts given).left calls in
       Within (bias_estimate w f).sigma (zero w) (sigma_of w f.inertial.coeffs.bias.bias_p0)

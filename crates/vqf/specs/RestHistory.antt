@@ -1,6 +1,6 @@
 -- Rest, told from history, on the whole filter: the calls that reach the inertial half and what they were answered tell it, as
 -- specs/RestHistory.antt of `inertial` says. Nothing magnetic is asked.
-use Rattle.std.specs.Prelude.{◌≡◌, List, Float}
+use Rattle.std.specs.Prelude.{◌≡◌, List, Option, Float}
 use Rattle.std.specs.Float.{Format}
 use Rattle.inertial.specs.Calls.{Answered, answered}
 use Rattle.tilt.specs.RestHistory.{told_rest}
@@ -11,8 +11,7 @@ use Rattle.vqf.specs.Asked.{rest_detected}
 use Rattle.vqf.specs.Calls.{Call, inertial_calls, run}
 use Rattle.vqf.specs.Struck.{plain_answers}
 use Rattle.vqf.specs.declared.types.VQF.{VQF}
-use Rattle.vqf.specs.declared.types.Interval.{Interval}
-use Rattle.vqf.specs.declared.types.Settings.{Settings}
+use Rattle.vqf.specs.declared.types.Params.{Params}
 
 module _ (w : Format) where
   -- the calls that reach the inertial half, an `update` as its gyro and its accelerometer call, each with its answer
@@ -29,7 +28,7 @@ module _ (w : Format) where
   -- after any calls on a filter that was built and accepted
   abbrev pub RestFromHistory : Type 0
   RestFromHistory =
-      (gyr_ts : Float) (acc_given mag_given : Interval) (given : Settings) (calls : List Call)
+      (gyr_ts : Float) (acc_given mag_given : Option Float) (given : Option Params) (calls : List Call)
       → (new w gyr_ts acc_given mag_given given).number ≡ 0
       → let f = (new w gyr_ts acc_given mag_given given).left in
       RestTold (settings_or_house w given).inertial gyr_ts (interval_or acc_given gyr_ts) (history f calls) (run w f calls)

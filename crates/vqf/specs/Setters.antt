@@ -1,11 +1,10 @@
 -- The setters, over the format w: each is that of the half that it sets. The disturbance switch and the reset set both halves.
-use Rattle.std.specs.Prelude.{Bool, cond, Float}
+use Rattle.std.specs.Prelude.{Bool, cond, Option, Float}
 use Rattle.std.specs.Bool.{beq}
 use Rattle.std.specs.Float.{Format}
 use Rattle.algebra.specs.declared.vector.Vector.{Vector}
 use Rattle.limits.specs.Answers.{Told, told}
 use Rattle.inertial.specs.Setters as inertial
-use Rattle.inertial.specs.declared.setters.Sigma.{Sigma}
 use Rattle.magnetic.specs.Setters as magnetic
 use Rattle.vqf.specs.Told.{halves, inertially, magnetically}
 use Rattle.vqf.specs.declared.types.VQF.{VQF}
@@ -32,7 +31,7 @@ module _ (w : Format) where
   unfoldable pub set_rest_detection_thresholds : VQF → Float → Float → Told VQF
   set_rest_detection_thresholds f th_gyr th_acc = inertially f (inertial.set_rest_detection_thresholds w f.inertial th_gyr th_acc)
 
-  unfoldable pub set_bias_estimate : VQF → Vector → Sigma → Told VQF
+  unfoldable pub set_bias_estimate : VQF → Vector → Option Float → Told VQF
   set_bias_estimate f bias sigma = inertially f (inertial.set_bias_estimate w f.inertial bias sigma)
 
   unfoldable pub set_mag_ref : VQF → Float → Float → Told VQF

@@ -1,9 +1,8 @@
 -- Calls with everything magnetic struck out, and their answers, over the format w.
-use Rattle.std.specs.Prelude.{Bool, true, false, cond, List, [], ◌∷◌, ◌++◌, ℕ, take}
+use Rattle.std.specs.Prelude.{Bool, true, false, cond, List, [], ◌∷◌, ◌++◌, ℕ, take, None}
 use Rattle.std.specs.Float.{Format}
 use Rattle.vqf.specs.Calls.{Call, on_inertial, on_magnetic, update, set_mag_dist_rejection_enabled, reset_state, reply}
 use Rattle.vqf.specs.declared.types.VQF.{VQF}
-use Rattle.vqf.specs.declared.types.Sample.TheVariants.{Absent}
 
 -- "Magnetic calls are `update_mag`, `set_tau_mag` and `set_mag_ref`"; "`reset_state` and the disturbance switch setter are non-magnetic"
 abbrev pub magnetic : Call → Bool
@@ -17,7 +16,7 @@ magnetic reset_state = false
 abbrev pub without_sample : Call → Call
 without_sample (on_inertial c) = on_inertial c
 without_sample (on_magnetic c) = on_magnetic c
-without_sample (update g a m) = update g a Absent
+without_sample (update g a m) = update g a None
 without_sample (set_mag_dist_rejection_enabled on) = set_mag_dist_rejection_enabled on
 without_sample reset_state = reset_state
 

@@ -1,14 +1,11 @@
 -- What a call on the whole filter is told to give. A call on one half leaves the other as it is.
+pub use Rattle.limits.specs.Answers.{told_of}
 use Rattle.std.specs.Prelude.{ℕ}
 use Rattle.limits.specs.Answers.{number, Told, told}
 use Rattle.inertial.specs.declared.types.Inertial.{Inertial}
 use Rattle.magnetic.specs.declared.types.Magnetic.{Magnetic}
 use Rattle.vqf.specs.declared.types.VQF.{VQF}
-use Rattle.vqf.specs.declared.types.Updated.{Updated}
 use Rattle.vqf.specs.declared.types.UpdatedAll.{UpdatedAll}
-
-abbrev pub told_of : Updated → Told VQF
-told_of u = told (number u.answer) u.filter
 
 -- the numbers of the three calls of an update, and the filter that the last leaves
 pub record ToldAll : Type 0 where

@@ -1,5 +1,5 @@
 -- The updates, over the format w. The gyro and the accelerometer step are given the inertial half alone.
-use Rattle.std.specs.Prelude.{Float}
+use Rattle.std.specs.Prelude.{Option, None, Some, Float}
 use Rattle.std.specs.Float.{Format}
 use Rattle.algebra.specs.declared.vector.Vector.{Vector}
 use Rattle.limits.specs.Answers.{Told, told}
@@ -11,8 +11,6 @@ use Rattle.magnetic.specs.Step as mag
 use Rattle.magnetic.specs.declared.types.Seen.{Seen}
 use Rattle.vqf.specs.Told.{ToldAll, inertially, magnetically}
 use Rattle.vqf.specs.declared.types.VQF.{VQF}
-use Rattle.vqf.specs.declared.types.Sample.{Sample}
-use Rattle.vqf.specs.declared.types.Sample.TheVariants.{Absent, Given}
 
 module _ (w : Format) where
   -- what a magnetometer step reads of the inertial half
@@ -35,11 +33,11 @@ module _ (w : Format) where
   unfoldable pub update_mag : VQF → Vector → Told VQF
   update_mag f v = magnetically f (mag.update_mag w f.magnetic (seen f.inertial) v)
 
-  unfoldable pub update_sample : VQF → Sample → Told VQF
-  update_sample f Absent = told 0 f
-  update_sample f (Given v) = update_mag f v
+  unfoldable pub update_sample : VQF → Option Vector → Told VQF
+  update_sample f None = told 0 f
+  update_sample f (Some v) = update_mag f v
 
-  unfoldable pub update : VQF → Vector → Vector → Sample → ToldAll
+  unfoldable pub update : VQF → Vector → Vector → Option Vector → ToldAll
   update f gyr acc mag =
       let g = update_gyr f gyr in
       let a = update_acc g.left acc in

@@ -1,5 +1,5 @@
 -- The worked values of document 01 that are marked P, and what document 02 changed or added, each below its line. Numbers are binary64; the calls are made on the fresh house filter.
-use Rattle.std.specs.Prelude.{◌≡◌, [], ◌∷◌, ℕ, ◌+◌, ◌^◌, Float, Ok, Err}
+use Rattle.std.specs.Prelude.{◌≡◌, [], ◌∷◌, ℕ, ◌+◌, ◌^◌, None, Some, Ok, Err, Float}
 use Rattle.std.specs.Float.{nan, binary64}
 use Rattle.std.specs.Float.Ieee.{neg, of_bits, to_bits}
 use Rattle.floats.specs.Decimals.{decimal, hundredth}
@@ -20,7 +20,6 @@ use Rattle.inertial.specs.Told.{state_of, with_state}
 use Rattle.inertial.specs.Setters.{with_rest_params}
 use Rattle.inertial.specs.declared.types.Bias.{Bias}
 use Rattle.tilt.specs.declared.types.RestParams.{RestParams}
-use Rattle.inertial.specs.declared.setters.Sigma.TheVariants.{Absent, Given}
 use Rattle.vqf.specs.Build as build
 use Rattle.vqf.specs.Update.{update_gyr, update_gyr_with_ts, update_acc}
 use Rattle.vqf.specs.Setters.{set_tau_acc, set_bias_estimate}
@@ -77,13 +76,13 @@ house_clipped clip =
 
 -- `set_bias_estimate` without a standard deviation: it stores the three numbers; or it answers 4 and leaves the filter as it was, whichever of the three x is
 abbrev Takes : VQF → Vector → Type 0
-Takes f v = let told = set_bias_estimate binary64 f v Absent in (told.number ≡ 0) × (told.left.inertial.state.bias.bias ≡ v)
+Takes f v = let told = set_bias_estimate binary64 f v None in (told.number ≡ 0) × (told.left.inertial.state.bias.bias ≡ v)
 
 abbrev Refuses : VQF → Float → Type 0
 Refuses f x =
-    (set_bias_estimate binary64 f (vector x (whole 0) (whole 0)) Absent ≡ told 4 f)
-    × (set_bias_estimate binary64 f (vector (whole 0) x (whole 0)) Absent ≡ told 4 f)
-    × (set_bias_estimate binary64 f (vector (whole 0) (whole 0) x) Absent ≡ told 4 f)
+    (set_bias_estimate binary64 f (vector x (whole 0) (whole 0)) None ≡ told 4 f)
+    × (set_bias_estimate binary64 f (vector (whole 0) x (whole 0)) None ≡ told 4 f)
+    × (set_bias_estimate binary64 f (vector (whole 0) (whole 0) x) None ≡ told 4 f)
 
 abbrev pub thrice : Float → Vector
 thrice x = vector x x x
@@ -100,7 +99,7 @@ least_clip = decimal binary64 17453292519943296 (10 ^ 22)
 
 -- the house filter with `bias_clip` 90 and its bias at the lower end
 abbrev pub most_biased : VQF
-most_biased = (set_bias_estimate binary64 (house_clipped (whole 90)) (thrice (neg quarter_turn)) Absent).left
+most_biased = (set_bias_estimate binary64 (house_clipped (whole 90)) (thrice (neg quarter_turn)) None).left
 
 pub record BiasValues : Type 0 where
   -- "A component exactly on the clip is taken", in either sign; the next binary64 beyond and a NaN give 4
@@ -114,8 +113,8 @@ pub record BiasValues : Type 0 where
   -- with `bias_clip` 0.0001 the clip is `bias_clip * (PI / 180)`; `bias_clip * PI / 180` is the next binary64 below, while at 2 and 90 the two are equal
   pub at_least : let f = house_clipped (decimal binary64 1 (10 ^ 4)) in Takes f (thrice least_clip) × Refuses f (next_above least_clip)
   -- the standard deviation is taken up to 100, as before
-  pub sigma_taken : (set_bias_estimate binary64 house (thrice house_clip) (Given (whole 100))).number ≡ 0
-  pub sigma_above : (set_bias_estimate binary64 house (thrice house_clip) (Given (next_above (whole 100)))).number ≡ 4
+  pub sigma_taken : (set_bias_estimate binary64 house (thrice house_clip) (Some (whole 100))).number ≡ 0
+  pub sigma_above : (set_bias_estimate binary64 house (thrice house_clip) (Some (next_above (whole 100)))).number ≡ 4
 
 pub record Worked : Type 0 where
   -- "(1,2,3,4) times (5,6,7,8) = (-60,12,30,24)"

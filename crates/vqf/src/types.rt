@@ -1,4 +1,3 @@
-use algebra::Vector;
 use inertial::{Inertial, InertialCoefficients, InertialParams, InertialState};
 use limits::Answer;
 use magnetic::{Magnetic, MagneticCoefficients, MagneticParams, MagneticState};
@@ -27,32 +26,7 @@ pub struct VQF {
     pub magnetic: Magnetic,
 }
 
-// An interval that is the gyro's where it is absent.
-#[derive(Clone, Copy)]
-pub enum Interval {
-    Absent,
-    Given(f64),
-}
-
-// Settings that are the house's where they are absent.
-#[derive(Clone, Copy)]
-pub enum Settings {
-    Absent,
-    Given(Params),
-}
-
-// A magnetometer sample, or none.
-#[derive(Clone, Copy)]
-pub enum Sample {
-    Absent,
-    Given(Vector),
-}
-
-#[derive(Clone, Copy)]
-pub struct Updated {
-    pub answer: Answer,
-    pub filter: VQF,
-}
+pub type Updated = limits::Updated<VQF>;
 
 #[derive(Clone, Copy)]
 pub struct UpdatedAll {

@@ -12,7 +12,7 @@ use inertial::{InertialParams, InertialState};
 use magnetic::MagneticParams;
 use std::io;
 use std::io::Stdout;
-use vqf::{Interval, Params, Settings, Updated, VQF};
+use vqf::{Params, Updated, VQF};
 
 fn main(rt: HostRuntime) -> io::Result<()> {
     let stdout = rt.stdout();
@@ -141,16 +141,11 @@ fn unmoved(stdout: Stdout, line: u64, f: VQF) -> io::Result<()> {
 }
 
 fn slow_house() -> Updated {
-    VQF::new(
-        0.01,
-        Interval::Given(0.5),
-        Interval::Absent,
-        Settings::Absent,
-    )
+    VQF::new(0.01, Some(0.5), None, None)
 }
 
 fn house_with(p: Params) -> Updated {
-    VQF::new(0.01, Interval::Absent, Interval::Absent, Settings::Given(p))
+    VQF::new(0.01, None, None, Some(p))
 }
 
 fn still(stdout: Stdout, line: u64, f: VQF) -> io::Result<VQF> {
