@@ -7,7 +7,7 @@ mod state;
 
 use crate::output::Output;
 use crate::state::{put_answers, put_state};
-use script::{Fault, Lines, Packed, Request};
+use script::{Fault, Lines, Name, Request};
 use std::io;
 use std::io::{Stderr, Stdin, Write};
 use vqf::VQF;
@@ -23,12 +23,11 @@ fn main(rt: HostRuntime) -> io::Result<()> {
 fn play(stdin: Stdin, stderr: Stderr, out: &mut Output) -> io::Result<()> {
     let mut filter = VQF::fresh();
     for (number, line) in (1..=u64::MAX).zip(Lines::from(stdin)) {
-        let line = line?;
-        let request = line.request();
-        if let Request::Bad(fault) = request {
-            return refused(stderr, out, number, fault);
+        match line?.request() {
+            Err(fault) => return refused(stderr, out, number, fault),
+            Ok(None) => {}
+            Ok(Some((name, request))) => filter = answered(out, filter, name, request)?,
         }
-        filter = answered(out, filter, Packed(line.name), request)?;
     }
     Ok(())
 }
@@ -39,9 +38,8 @@ fn refused(stderr: Stderr, out: &mut Output, number: u64, fault: Fault) -> io::R
 }
 
 // Writes what a line is answered, and hands back the next filter.
-fn answered(out: &mut Output, f: VQF, name: Packed, request: Request) -> io::Result<VQF> {
+fn answered(out: &mut Output, f: VQF, name: Name, request: Request) -> io::Result<VQF> {
     match request {
-        Request::Nothing | Request::Bad(_) => Ok(f),
         Request::Value(x) => {
             write!(out, "{name}")?;
             out.numbers(&[x])?;

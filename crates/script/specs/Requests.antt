@@ -1,8 +1,8 @@
 -- What a line of a script asks for.
-use Rattle.std.specs.Prelude.{Bool, false, cond, List, ℕ, eqb, get_or, Option, None, Some, Float}
+use Rattle.std.specs.Prelude.{Bool, cond, List, map, ℕ, get_or, Float, Option, Some, None, option_map, unwrap_or, Result, Ok, Err}
 use Rattle.std.specs.Float.{nan, binary64}
 use Rattle.std.specs.Float.Ieee.{eq}
-use Rattle.floats.specs.Notation.{one}
+use Rattle.floats.specs.Notation.{zero, one}
 use Rattle.numbers.specs.Root.{root}
 use Rattle.numbers.specs.Sines.{sin, cos, tan}
 use Rattle.numbers.specs.Exponential.{exp}
@@ -13,8 +13,10 @@ use Rattle.tilt.specs.declared.types.RestParams.{RestParams}
 use Rattle.inertial.specs.declared.types.BiasParams.{BiasParams}
 use Rattle.magnetic.specs.declared.types.MagneticParams.{MagneticParams}
 use Rattle.vqf.specs.declared.types.Params.{Params}
-use Rattle.script.specs.Names.{GYR, GYRTS, ACC, TAU_ACC, TAU_MAG, MOTION, REST, DIST, TH, MAGREF, STATE, GET, SQRT, SIN, COS, TAN, EXP, ASIN, most}
 use Rattle.script.specs.Lines.{is_complete, missing}
+use Rattle.script.specs.declared.names.Name.{Name}
+use Rattle.script.specs.declared.names.Name.TheVariants as names
+use Rattle.script.specs.declared.line.Fault.{Fault}
 use Rattle.script.specs.declared.line.Line.{Line}
 use Rattle.script.specs.declared.request.Construction.{Construction}
 use Rattle.script.specs.declared.request.Samples.{Samples}
@@ -32,17 +34,8 @@ vector_at values i j k = vector (value values i) (value values j) (value values 
 abbrev pub switch : Float → Bool
 switch x = eq x (one binary64)
 
-abbrev pub interval : Bool → Float → Option Float
-interval is_absent x = cond is_absent None (Some x)
-
-abbrev pub sample : Bool → Vector → Option Vector
-sample is_absent v = cond is_absent None (Some v)
-
-abbrev pub sigma : Bool → Float → Option Float
-sigma is_absent x = cond is_absent None (Some x)
-
 -- ---- the settings, in the order of the source
-unfoldable pub rest_params : List Float → RestParams
+abbrev pub rest_params : List Float → RestParams
 rest_params values = record {
   rest_bias_est_enabled = switch (value values 6);
   mag_dist_rejection_enabled = switch (value values 7);
@@ -53,7 +46,7 @@ rest_params values = record {
   rest_th_acc = value values 17;
 }
 
-unfoldable pub bias_params : List Float → BiasParams
+abbrev pub bias_params : List Float → BiasParams
 bias_params values = record {
   motion_bias_est_enabled = switch (value values 5);
   bias_sigma_init = value values 8;
@@ -63,7 +56,7 @@ bias_params values = record {
   bias_sigma_rest = value values 13;
 }
 
-unfoldable pub magnetic_params : List Float → MagneticParams
+abbrev pub magnetic_params : List Float → MagneticParams
 magnetic_params values = record {
   tau_mag = value values 4;
   mag_current_tau = value values 18;
@@ -78,73 +71,73 @@ magnetic_params values = record {
   mag_rejection_factor = value values 27;
 }
 
-unfoldable pub params : List Float → Params
+abbrev pub params : List Float → Params
 params values = record {
   inertial = record { tau_acc = value values 3; rest = rest_params values; bias = bias_params values };
   magnetic = magnetic_params values;
 }
 
-unfoldable pub settings : Bool → List Float → Option Params
+abbrev pub settings : Bool → List Float → Option Params
 settings is_house values = cond is_house None (Some (params values))
 
--- ---- by how many words the name takes
-unfoldable pub of_nothing : ℕ → Request
-of_nothing name = cond (eqb name STATE) requests.State (cond (eqb name GET) requests.Get (requests.Call calls.Reset))
+-- ---- by its name
+-- the words behind the name as numbers; where none was given, 0
+abbrev pub numbers : List (Option Float) → List Float
+numbers values = map (λ x. unwrap_or x (zero binary64)) values
 
-unfoldable pub of_function : ℕ → Float → Float
-of_function name x =
-    cond (eqb name SQRT) (root binary64 x)
-    (cond (eqb name SIN) (sin binary64 x)
-    (cond (eqb name COS) (cos binary64 x)
-    (cond (eqb name TAN) (tan x)
-    (cond (eqb name EXP) (exp binary64 x)
-    (cond (eqb name ASIN) (asin binary64 x) (acos binary64 x))))))
+abbrev given : List (Option Float) → ℕ → Option Float
+given values i = get_or values i None
 
-unfoldable pub of_one : ℕ → Float → Request
-of_one name x =
-    cond (eqb name TAU_ACC) (requests.Call (calls.TauAcc x))
-    (cond (eqb name TAU_MAG) (requests.Call (calls.TauMag x))
-    (cond (eqb name MOTION) (requests.Call (calls.Motion (switch x)))
-    (cond (eqb name REST) (requests.Call (calls.Rest (switch x)))
-    (cond (eqb name DIST) (requests.Call (calls.Dist (switch x)))
-    (requests.Value (of_function name x))))))
-
-unfoldable pub of_two : ℕ → Float → Float → Request
-of_two name x y =
-    cond (eqb name TH) (requests.Call (calls.Thresholds x y)) (cond (eqb name MAGREF) (requests.Call (calls.MagRef x y)) (requests.Value (atan2 binary64 x y)))
-
-unfoldable pub of_three : ℕ → Vector → Request
-of_three name v = cond (eqb name GYR) (requests.Call (calls.Gyr v)) (cond (eqb name ACC) (requests.Call (calls.Acc v)) (requests.Call (calls.Mag v)))
-
-unfoldable pub of_four : ℕ → Vector → Float → Bool → Request
-of_four name v x is_absent = cond (eqb name GYRTS) (requests.Call (calls.GyrWithTs v x)) (requests.Call (calls.Bias v (sigma is_absent x)))
-
-unfoldable pub construction : Line → Construction
+abbrev pub construction : Line → Construction
 construction l = record {
-  gyr_ts = value l.values 0;
-  acc_ts = interval (get_or l.absent 1 false) (value l.values 1);
-  mag_ts = interval (get_or l.absent 2 false) (value l.values 2);
-  settings = settings l.is_house l.values;
+  gyr_ts = value (numbers l.values) 0;
+  acc_ts = given l.values 1;
+  mag_ts = given l.values 2;
+  settings = settings l.is_house (numbers l.values);
 }
 
-unfoldable pub samples : Line → Samples
+abbrev pub samples : Line → Samples
 samples l = record {
-  gyr = vector_at l.values 0 1 2;
-  acc = vector_at l.values 3 4 5;
-  mag = sample (get_or l.absent 6 false) (vector_at l.values 6 7 8);
+  gyr = vector_at (numbers l.values) 0 1 2;
+  acc = vector_at (numbers l.values) 3 4 5;
+  mag = option_map (λ x. vector x (value (numbers l.values) 7) (value (numbers l.values) 8)) (given l.values 6);
 }
 
-unfoldable pub by_words : Line → ℕ → Request
-by_words l n =
-    cond (eqb n 0) (of_nothing l.name)
-    (cond (eqb n 1) (of_one l.name (value l.values 0))
-    (cond (eqb n 2) (of_two l.name (value l.values 0) (value l.values 1))
-    (cond (eqb n 3) (of_three l.name (vector_at l.values 0 1 2))
-    (cond (eqb n 4) (of_four l.name (vector_at l.values 0 1 2) (value l.values 3) (get_or l.absent 3 false))
-    (cond (eqb n 9) (requests.Update (samples l)) (requests.Call (calls.New (construction l))))))))
+abbrev named : Line → Name → Float → Float → Vector → Request
+named l names.New x y v = requests.Call (calls.New (construction l))
+named l names.Gyr x y v = requests.Call (calls.Gyr v)
+named l names.GyrTs x y v = requests.Call (calls.GyrWithTs v (value (numbers l.values) 3))
+named l names.Acc x y v = requests.Call (calls.Acc v)
+named l names.Mag x y v = requests.Call (calls.Mag v)
+named l names.Upd x y v = requests.Update (samples l)
+named l names.TauAcc x y v = requests.Call (calls.TauAcc x)
+named l names.TauMag x y v = requests.Call (calls.TauMag x)
+named l names.Motion x y v = requests.Call (calls.Motion (switch x))
+named l names.Rest x y v = requests.Call (calls.Rest (switch x))
+named l names.Dist x y v = requests.Call (calls.Dist (switch x))
+named l names.Th x y v = requests.Call (calls.Thresholds x y)
+named l names.Bias x y v = requests.Call (calls.Bias v (given l.values 3))
+named l names.MagRef x y v = requests.Call (calls.MagRef x y)
+named l names.Reset x y v = requests.Call calls.Reset
+named l names.State x y v = requests.State
+named l names.Get x y v = requests.Get
+named l names.Sqrt x y v = requests.Value (root binary64 x)
+named l names.Sin x y v = requests.Value (sin binary64 x)
+named l names.Cos x y v = requests.Value (cos binary64 x)
+named l names.Tan x y v = requests.Value (tan x)
+named l names.Exp x y v = requests.Value (exp binary64 x)
+named l names.Asin x y v = requests.Value (asin binary64 x)
+named l names.Acos x y v = requests.Value (acos binary64 x)
+named l names.Atan2 x y v = requests.Value (atan2 binary64 x y)
+
+abbrev pub asked : Line → Name → Request
+asked l name = named l name (value (numbers l.values) 0) (value (numbers l.values) 1) (vector_at (numbers l.values) 0 1 2)
 
 -- ---- what a line asks for once it has ended
-unfoldable pub request : Line → Request
-request l =
-    cond l.is_faulty (requests.Bad l.fault)
-    (cond (eqb l.name 0) requests.Nothing (cond (is_complete l) (by_words l (most l.name)) (requests.Bad (missing l))))
+abbrev ended : Line → Option Fault → Option Name → Result (Option (Name × Request)) Fault
+ended l (Some fault) name = Err fault
+ended l None None = Ok None
+ended l None (Some name) = cond (is_complete l name) (Ok (Some (name, asked l name))) (Err (missing l))
+
+abbrev pub request : Line → Result (Option (Name × Request)) Fault
+request l = ended l l.fault l.name

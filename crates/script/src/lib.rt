@@ -11,7 +11,7 @@ pub mod request;
 
 pub use line::{Fault, Line, What};
 pub use lines::Lines;
+pub use names::Name;
 pub use play::called;
-pub use printed::Packed;
 pub use reader::Reader;
 pub use request::{Call, Construction, Request, Samples};

@@ -1,14 +1,13 @@
 // A line of a script, read a word at a time.
 ghost use Rattle.std.specs.Prelude.{◌≡◌, ◌<◌};
-ghost use Rattle.script.specs.Lines.{new_place, place_of, position, faulty, with_name, named, with_value, with_number, with_switch, with_dash, with_house, dash_or_number, house_or_number, argued, line_with, is_complete, missing};
+ghost use Rattle.script.specs.Lines.{what_of, read_at, position, faulty, named, with_value, with_house, with_argument, argued, line_with, is_complete, missing};
 
-use crate::names::{BIAS, DASH, HOUSE, NEW, ONE, UPD, ZERO, is_call, is_switch, most};
-use words::{Number, Word};
+use crate::names::{DASH, HOUSE, Name, ONE, ZERO};
+use words::{NoNumber, Word};
 
 // What is wrong with a word.
-#[derive(Clone, Copy)]
+#[derive(Clone, Copy, Debug, PartialEq, Eq)]
 pub enum What {
-    Nothing,
     NoCall,
     NoNumber,
     TooLong,
@@ -16,6 +15,18 @@ pub enum What {
     NoSwitch,
     TooMany,
     Missing,
+}
+
+impl From<NoNumber> for What {
+    ghost from_gives = { λ why what. what ≡ what_of why };
+
+    fn from(why: NoNumber) -> What {
+        match why {
+            NoNumber::NotANumber => What::NoNumber,
+            NoNumber::TooLong => What::TooLong,
+            NoNumber::TooFar => What::TooFar,
+        }
+    }
 }
 
 // Which word it is, the line's first being 1, its first bytes as `Word` packs them, and its length.
@@ -36,45 +47,43 @@ pub enum Place {
     Switch,
 }
 
-// The name, and of the words behind it the numbers, and which are a dash. A switch is 0 or 1. After
-// `house`, and after the dash in place of a magnetometer sample, the line is closed.
+// What a word behind the name is. A switch is 0 or 1.
+#[derive(Clone, Copy)]
+pub enum Argument {
+    Number(f64),
+    Dash,
+    House,
+}
+
+// The name, and of the words behind it the numbers, with none for a dash. After `house`, and after
+// the dash in place of a magnetometer sample, the line is closed.
 #[derive(Clone, Copy)]
 pub struct Line {
-    pub name: u64,
+    pub name: Option<Name>,
     pub count: usize,
-    pub values: [f64; 28],
-    pub absent: [bool; 28],
+    pub values: [Option<f64>; 28],
     pub is_house: bool,
     pub is_closed: bool,
-    pub is_faulty: bool,
-    pub fault: Fault,
+    pub fault: Option<Fault>,
 }
 
-fn new_place(i: usize) -> Place
-    ensures { result ≡ new_place i }
-{
-    if (i == 1) | (i == 2) {
-        Place::NumberOrDash
-    } else if i == 3 {
-        Place::NumberOrHouse
-    } else if (i == 5) | (i == 6) | (i == 7) {
-        Place::Switch
-    } else {
-        Place::Number
-    }
+// The index of a word that a line has room for.
+#[derive(Clone, Copy)]
+struct Room {
+    index: usize,
+    ghost is_within: { index < 28 },
 }
 
-fn place_of(name: u64, i: usize) -> Place
-    ensures { result ≡ place_of name i }
+fn read_at(place: Place, word: Word) -> Result<Argument, What>
+    ensures { result ≡ read_at place word }
 {
-    if name == NEW {
-        new_place(i)
-    } else if is_switch(name) {
-        Place::Switch
-    } else if ((name == BIAS) & (i == 3)) | ((name == UPD) & (i == 6)) {
-        Place::NumberOrDash
-    } else {
-        Place::Number
+    match (place, word.short()) {
+        (Place::NumberOrDash, Some(DASH)) => Ok(Argument::Dash),
+        (Place::NumberOrHouse, Some(HOUSE)) => Ok(Argument::House),
+        (Place::Switch, Some(ZERO)) => Ok(Argument::Number(0.0)),
+        (Place::Switch, Some(ONE)) => Ok(Argument::Number(1.0)),
+        (Place::Switch, _) => Err(What::NoSwitch),
+        _ => Ok(Argument::Number(word.number()?)),
     }
 }
 
@@ -87,19 +96,12 @@ fn position(count: usize) -> usize
 
 impl Line {
     pub const START: Line = Line {
-        name: 0,
+        name: None,
         count: 0,
-        values: [0.0; 28],
-        absent: [false; 28],
+        values: [None; 28],
         is_house: false,
         is_closed: false,
-        is_faulty: false,
-        fault: Fault {
-            what: What::Nothing,
-            word: 0,
-            text: 0,
-            length: 0,
-        },
+        fault: None,
     };
 
     fn faulty(self, what: What, position: usize, word: Word) -> Line
@@ -111,154 +113,86 @@ impl Line {
             text: word.text,
             length: word.length,
         };
-        let mut next = self;
-        next.is_faulty = true;
-        next.fault = fault;
-        next
-    }
-
-    fn with_name(self, name: u64) -> Line
-        ensures { result ≡ with_name self name }
-    {
-        let mut next = self;
-        next.name = name;
-        next
+        Line {
+            fault: Some(fault),
+            ..self
+        }
     }
 
     fn named(self, word: Word) -> Line
         ensures { result ≡ named self word }
     {
-        let name = word.short();
-        if is_call(name) {
-            self.with_name(name)
-        } else {
-            self.faulty(What::NoCall, 1, word)
+        match word.short().and_then(Name::of) {
+            Some(name) => Line {
+                name: Some(name),
+                ..self
+            },
+            None => self.faulty(What::NoCall, 1, word),
         }
     }
 
-    fn with_value(self, x: f64) -> Line
-        requires { self.count < 28 }
-        ensures { result ≡ with_value self x }
+    fn with_value(self, room: Room, value: Option<f64>) -> Line
+        ensures { result ≡ with_value self room.index value }
     {
-        let i = self.count;
-        let mut values = self.values;
-        values[i] = x;
         let mut next = self;
-        next.count = i + 1;
-        next.values = values;
+        next.values[room.index] = value;
+        next.count = room.index + 1;
         next
     }
 
-    fn with_number(self, word: Word) -> Line
-        requires { self.count < 28 }
-        ensures { result ≡ with_number self word }
+    fn with_house(self, room: Room) -> Line
+        ensures { result ≡ with_house self room.index }
     {
-        let number = word.number();
-        match number {
-            Number::None => self.faulty(What::NoNumber, position(self.count), word),
-            Number::TooLong => self.faulty(What::TooLong, position(self.count), word),
-            Number::TooFar => self.faulty(What::TooFar, position(self.count), word),
-            Number::Of(x) => self.with_value(x),
+        Line {
+            count: room.index + 1,
+            is_house: true,
+            is_closed: true,
+            ..self
         }
     }
 
-    fn with_switch(self, word: Word) -> Line
-        requires { self.count < 28 }
-        ensures { result ≡ with_switch self word }
+    fn with_argument(self, name: Name, room: Room, argument: Argument) -> Line
+        ensures { result ≡ with_argument self name room.index argument }
     {
-        let text = word.short();
-        if text == ZERO {
-            self.with_value(0.0)
-        } else if text == ONE {
-            self.with_value(1.0)
-        } else {
-            self.faulty(What::NoSwitch, position(self.count), word)
+        match argument {
+            Argument::Number(x) => self.with_value(room, Some(x)),
+            Argument::Dash => Line {
+                is_closed: name == Name::Upd,
+                ..self.with_value(room, None)
+            },
+            Argument::House => self.with_house(room),
         }
     }
 
-    fn with_dash(self) -> Line
-        requires { self.count < 28 }
-        ensures { result ≡ with_dash self }
+    // A word that no place is left for is a fault.
+    fn argued(self, name: Name, word: Word) -> Line
+        ensures { result ≡ argued self name word }
     {
-        let i = self.count;
-        let mut absent = self.absent;
-        absent[i] = true;
-        let mut next = self;
-        next.count = i + 1;
-        next.absent = absent;
-        next.is_closed = self.name == UPD;
-        next
-    }
-
-    fn with_house(self) -> Line
-        requires { self.count < 28 }
-        ensures { result ≡ with_house self }
-    {
-        let mut next = self;
-        next.count = self.count + 1;
-        next.is_house = true;
-        next.is_closed = true;
-        next
-    }
-
-    fn dash_or_number(self, word: Word) -> Line
-        requires { self.count < 28 }
-        ensures { result ≡ dash_or_number self word }
-    {
-        let text = word.short();
-        if text == DASH {
-            self.with_dash()
-        } else {
-            self.with_number(word)
+        let index = self.count;
+        if self.is_closed | (index >= name.most()) {
+            return self.faulty(What::TooMany, position(index), word);
+        }
+        match read_at(name.place(index), word) {
+            Ok(argument) => self.with_argument(name, Room { index }, argument),
+            Err(what) => self.faulty(what, position(index), word),
         }
     }
 
-    fn house_or_number(self, word: Word) -> Line
-        requires { self.count < 28 }
-        ensures { result ≡ house_or_number self word }
-    {
-        let text = word.short();
-        if text == HOUSE {
-            self.with_house()
-        } else {
-            self.with_number(word)
-        }
-    }
-
-    fn argued(self, word: Word) -> Line
-        requires { self.count < 28 }
-        ensures { result ≡ argued self word }
-    {
-        let wanted = place_of(self.name, self.count);
-        match wanted {
-            Place::Number => self.with_number(word),
-            Place::NumberOrDash => self.dash_or_number(word),
-            Place::NumberOrHouse => self.house_or_number(word),
-            Place::Switch => self.with_switch(word),
-        }
-    }
-
-    // A word that no place is left for is a fault, and nothing behind a fault is read.
+    // Nothing behind a fault is read.
     pub(crate) fn with(self, word: Word) -> Line
         ensures { result ≡ line_with self word }
     {
-        if self.is_faulty {
-            self
-        } else if self.name == 0 {
-            self.named(word)
-        } else if self.is_closed {
-            self.faulty(What::TooMany, position(self.count), word)
-        } else if self.count < most(self.name) {
-            self.argued(word)
-        } else {
-            self.faulty(What::TooMany, position(self.count), word)
+        match (self.fault, self.name) {
+            (Some(_), _) => self,
+            (None, None) => self.named(word),
+            (None, Some(name)) => self.argued(name, word),
         }
     }
 
-    pub(crate) fn is_complete(self) -> bool
-        ensures { result ≡ is_complete self }
+    pub(crate) fn is_complete(self, name: Name) -> bool
+        ensures { result ≡ is_complete self name }
     {
-        self.is_closed | (self.count == most(self.name))
+        self.is_closed | (self.count == name.most())
     }
 
     pub(crate) fn missing(self) -> Fault

@@ -1,7 +1,12 @@
 // The words of a script that are no numbers: a word of at most seven bytes is its bytes, packed
 // behind a 1.
-ghost use Rattle.std.specs.Prelude.{◌≡◌};
-ghost use Rattle.script.specs.Names.{takes_none, is_function, is_switch, takes_one, takes_two, takes_three, takes_four, most, is_call};
+ghost use Rattle.std.specs.Prelude.{◌≡◌, ◌≤◌, Some};
+ghost use Rattle.std.specs.Fmt.{styled_text};
+ghost use Rattle.script.specs.Names.{name_of, text, most};
+ghost use Rattle.script.specs.Lines.{place_of};
+
+use crate::line::Place;
+use std::fmt;
 
 pub(crate) const DASH: u64 = 0x012d;
 
@@ -11,127 +16,141 @@ pub(crate) const ONE: u64 = 0x0131;
 
 pub(crate) const HOUSE: u64 = 0x0168_6f75_7365;
 
-pub(crate) const NEW: u64 = 0x016e_6577;
-
-pub(crate) const GYR: u64 = 0x0167_7972;
-
-pub(crate) const GYRTS: u64 = 0x0167_7972_7473;
-
-pub(crate) const ACC: u64 = 0x0161_6363;
-
-pub(crate) const MAG: u64 = 0x016d_6167;
-
-pub(crate) const UPD: u64 = 0x0175_7064;
-
-pub(crate) const TAU_ACC: u64 = 0x0174_6175_5f61_6363;
-
-pub(crate) const TAU_MAG: u64 = 0x0174_6175_5f6d_6167;
-
-pub(crate) const MOTION: u64 = 0x01_6d6f_7469_6f6e;
-
-pub(crate) const REST: u64 = 0x01_7265_7374;
-
-pub(crate) const DIST: u64 = 0x01_6469_7374;
-
-pub(crate) const TH: u64 = 0x01_7468;
-
-pub(crate) const BIAS: u64 = 0x01_6269_6173;
-
-pub(crate) const MAGREF: u64 = 0x01_6d61_6772_6566;
-
-pub(crate) const RESET: u64 = 0x0172_6573_6574;
-
-pub(crate) const STATE: u64 = 0x0173_7461_7465;
-
-pub(crate) const GET: u64 = 0x0167_6574;
-
-pub(crate) const SQRT: u64 = 0x01_7371_7274;
-
-pub(crate) const SIN: u64 = 0x0173_696e;
-
-pub(crate) const COS: u64 = 0x0163_6f73;
-
-pub(crate) const TAN: u64 = 0x0174_616e;
-
-pub(crate) const EXP: u64 = 0x0165_7870;
-
-pub(crate) const ASIN: u64 = 0x01_6173_696e;
-
-pub(crate) const ACOS: u64 = 0x01_6163_6f73;
-
-pub(crate) const ATAN2: u64 = 0x0161_7461_6e32;
-
-fn takes_none(name: u64) -> bool
-    ensures { result ≡ takes_none name }
-{
-    (name == RESET) | (name == STATE) | (name == GET)
+// What the first word of a line names: a call, what is asked of the filter, or a function.
+#[derive(Clone, Copy, Debug, PartialEq, Eq)]
+pub enum Name {
+    New,
+    Gyr,
+    GyrTs,
+    Acc,
+    Mag,
+    Upd,
+    TauAcc,
+    TauMag,
+    Motion,
+    Rest,
+    Dist,
+    Th,
+    Bias,
+    MagRef,
+    Reset,
+    State,
+    Get,
+    Sqrt,
+    Sin,
+    Cos,
+    Tan,
+    Exp,
+    Asin,
+    Acos,
+    Atan2,
 }
 
-fn is_function(name: u64) -> bool
-    ensures { result ≡ is_function name }
-{
-    (name == SQRT)
-        | (name == SIN)
-        | (name == COS)
-        | (name == TAN)
-        | (name == EXP)
-        | (name == ASIN)
-        | (name == ACOS)
-}
+impl Name {
+    // The name that a word spells.
+    #[tactic(auto, unfolding(crate::specs::Names::name_of))]
+    pub(crate) fn of(text: u64) -> Option<Name>
+        ensures { result ≡ name_of text }
+    {
+        match text {
+            0x016e_6577 => Some(Name::New),
+            0x0167_7972 => Some(Name::Gyr),
+            0x0167_7972_7473 => Some(Name::GyrTs),
+            0x0161_6363 => Some(Name::Acc),
+            0x016d_6167 => Some(Name::Mag),
+            0x0175_7064 => Some(Name::Upd),
+            0x0174_6175_5f61_6363 => Some(Name::TauAcc),
+            0x0174_6175_5f6d_6167 => Some(Name::TauMag),
+            0x01_6d6f_7469_6f6e => Some(Name::Motion),
+            0x01_7265_7374 => Some(Name::Rest),
+            0x01_6469_7374 => Some(Name::Dist),
+            0x01_7468 => Some(Name::Th),
+            0x01_6269_6173 => Some(Name::Bias),
+            0x01_6d61_6772_6566 => Some(Name::MagRef),
+            0x0172_6573_6574 => Some(Name::Reset),
+            0x0173_7461_7465 => Some(Name::State),
+            0x0167_6574 => Some(Name::Get),
+            0x01_7371_7274 => Some(Name::Sqrt),
+            0x0173_696e => Some(Name::Sin),
+            0x0163_6f73 => Some(Name::Cos),
+            0x0174_616e => Some(Name::Tan),
+            0x0165_7870 => Some(Name::Exp),
+            0x01_6173_696e => Some(Name::Asin),
+            0x01_6163_6f73 => Some(Name::Acos),
+            0x0161_7461_6e32 => Some(Name::Atan2),
+            _ => None,
+        }
+    }
 
-pub(crate) fn is_switch(name: u64) -> bool
-    ensures { result ≡ is_switch name }
-{
-    (name == MOTION) | (name == REST) | (name == DIST)
-}
+    fn text(self) -> &'static str
+        ensures { result.now ≡ text self }
+    {
+        match self {
+            Name::New => "new",
+            Name::Gyr => "gyr",
+            Name::GyrTs => "gyrts",
+            Name::Acc => "acc",
+            Name::Mag => "mag",
+            Name::Upd => "upd",
+            Name::TauAcc => "tau_acc",
+            Name::TauMag => "tau_mag",
+            Name::Motion => "motion",
+            Name::Rest => "rest",
+            Name::Dist => "dist",
+            Name::Th => "th",
+            Name::Bias => "bias",
+            Name::MagRef => "magref",
+            Name::Reset => "reset",
+            Name::State => "state",
+            Name::Get => "get",
+            Name::Sqrt => "sqrt",
+            Name::Sin => "sin",
+            Name::Cos => "cos",
+            Name::Tan => "tan",
+            Name::Exp => "exp",
+            Name::Asin => "asin",
+            Name::Acos => "acos",
+            Name::Atan2 => "atan2",
+        }
+    }
 
-fn takes_one(name: u64) -> bool
-    ensures { result ≡ takes_one name }
-{
-    (name == TAU_ACC) | (name == TAU_MAG) | is_switch(name) | is_function(name)
-}
+    // How many words follow it at most.
+    pub(crate) fn most(self) -> usize
+        ensures value { result ≡ most self }
+        ensures upper_bound { result ≤ 28 }
+    {
+        match self {
+            Name::Reset | Name::State | Name::Get => 0,
+            Name::TauAcc | Name::TauMag | Name::Motion | Name::Rest | Name::Dist => 1,
+            Name::Sqrt | Name::Sin | Name::Cos | Name::Tan | Name::Exp => 1,
+            Name::Asin | Name::Acos => 1,
+            Name::Th | Name::MagRef | Name::Atan2 => 2,
+            Name::Gyr | Name::Acc | Name::Mag => 3,
+            Name::GyrTs | Name::Bias => 4,
+            Name::Upd => 9,
+            Name::New => 28,
+        }
+    }
 
-fn takes_two(name: u64) -> bool
-    ensures { result ≡ takes_two name }
-{
-    (name == TH) | (name == MAGREF) | (name == ATAN2)
-}
-
-fn takes_three(name: u64) -> bool
-    ensures { result ≡ takes_three name }
-{
-    (name == GYR) | (name == ACC) | (name == MAG)
-}
-
-fn takes_four(name: u64) -> bool
-    ensures { result ≡ takes_four name }
-{
-    (name == GYRTS) | (name == BIAS)
-}
-
-// How many words follow a name at most.
-pub(crate) fn most(name: u64) -> usize
-    ensures { result ≡ most name }
-{
-    if takes_one(name) {
-        1
-    } else if takes_two(name) {
-        2
-    } else if takes_three(name) {
-        3
-    } else if takes_four(name) {
-        4
-    } else if name == UPD {
-        9
-    } else if name == NEW {
-        28
-    } else {
-        0
+    // What the word asks for that comes after `i` others behind the name.
+    pub(crate) fn place(self, i: usize) -> Place
+        ensures { result ≡ place_of self i }
+    {
+        match (self, i) {
+            (Name::New, 1 | 2) | (Name::Bias, 3) | (Name::Upd, 6) => Place::NumberOrDash,
+            (Name::New, 3) => Place::NumberOrHouse,
+            (Name::New, 5..=7) | (Name::Motion | Name::Rest | Name::Dist, _) => Place::Switch,
+            _ => Place::Number,
+        }
     }
 }
 
-pub(crate) fn is_call(name: u64) -> bool
-    ensures { result ≡ is_call name }
-{
-    takes_none(name) | (most(name) > 0)
+impl fmt::Display for Name {
+    ghost output = { λ name. Some (text name) };
+
+    ghost styled_output = { λ name s. Some (styled_text s (text name)) };
+
+    fn fmt<W: fmt::Write>(&self, f: &mut fmt::Formatter<W>) -> fmt::Result {
+        f.pad(self.text())
+    }
 }

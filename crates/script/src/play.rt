@@ -9,13 +9,11 @@ use vqf::{Updated, VQF};
 fn built(c: Construction) -> Updated
     ensures { told_of result ≡ built c }
 {
-    let acc_ts = c.acc_ts;
-    let mag_ts = c.mag_ts;
-    let settings = c.settings;
-    VQF::new(c.gyr_ts, acc_ts, mag_ts, settings)
+    VQF::new(c.gyr_ts, c.acc_ts, c.mag_ts, c.settings)
 }
 
 // A call of a script on the filter.
+#[tactic(auto, unfolding(crate::specs::Plays::called))]
 pub fn called(f: VQF, call: Call) -> Updated
     ensures { told_of result ≡ called f call }
 {

@@ -1,7 +1,7 @@
 // A script, read a byte at a time. Words are parted by spaces, tabs and carriage returns, and `#`
 // begins a comment, which the line's end ends.
 ghost use Rattle.std.specs.Prelude.{◌≡◌};
-ghost use Rattle.script.specs.Readers.{is_blank, parted, ended, commented, with_letter, reader_with};
+ghost use Rattle.script.specs.Readers.{parted, ended, commented, with_letter, reader_with};
 
 use crate::line::Line;
 use words::Word;
@@ -12,12 +12,6 @@ pub struct Reader {
     pub line: Line,
     pub is_comment: bool,
     pub is_ended: bool,
-}
-
-fn is_blank(byte: u8) -> bool
-    ensures { result ≡ is_blank byte }
-{
-    (byte == b' ') | (byte == 9) | (byte == 13)
 }
 
 impl Reader {
@@ -35,14 +29,10 @@ impl Reader {
         if self.word.length == 0 {
             self
         } else {
-            let word = self.word;
-            let before = self.line;
-            let line = before.with(word);
             Reader {
                 word: Word::START,
-                line,
-                is_comment: self.is_comment,
-                is_ended: self.is_ended,
+                line: self.line.with(self.word),
+                ..self
             }
         }
     }
@@ -50,43 +40,40 @@ impl Reader {
     fn with_letter(self, byte: u8) -> Reader
         ensures { result ≡ with_letter self byte }
     {
-        let before = self.word;
-        let word = before.with(byte);
-        let mut next = self;
-        next.word = word;
-        next
+        Reader {
+            word: self.word.with(byte),
+            ..self
+        }
     }
 
     fn commented(self) -> Reader
         ensures { result ≡ commented self }
     {
-        let mut next = self.parted();
-        next.is_comment = true;
-        next
+        Reader {
+            is_comment: true,
+            ..self.parted()
+        }
     }
 
     fn ended(self) -> Reader
         ensures { result ≡ ended self }
     {
-        let mut next = self.parted();
-        next.is_ended = true;
-        next
+        Reader {
+            is_ended: true,
+            ..self.parted()
+        }
     }
 
     // The reader after one more byte.
     pub fn with(self, byte: u8) -> Reader
         ensures { result ≡ reader_with self byte }
     {
-        if byte == b'\n' {
-            self.ended()
-        } else if self.is_comment {
-            self
-        } else if byte == b'#' {
-            self.commented()
-        } else if is_blank(byte) {
-            self.parted()
-        } else {
-            self.with_letter(byte)
+        match byte {
+            b'\n' => self.ended(),
+            _ if self.is_comment => self,
+            b'#' => self.commented(),
+            b' ' | b'\t' | b'\r' => self.parted(),
+            _ => self.with_letter(byte),
         }
     }
 }

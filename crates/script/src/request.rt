@@ -1,15 +1,9 @@
 // What a line asks for.
-ghost use Rattle.std.specs.Prelude.{◌≡◌, false, eqb, get_or};
-ghost use Rattle.std.specs.Float.{nan};
-ghost use Rattle.algebra.specs.Vectors.{vector};
-ghost use Rattle.script.specs.Names.{TAU_ACC, TAU_MAG};
-ghost use Rattle.script.specs.Requests.{switch, interval, sample, sigma, rest_params, bias_params, magnetic_params, params, settings, construction, samples, of_nothing, of_function, of_one, of_two, of_three, of_four, by_words, request};
+ghost use Rattle.std.specs.Prelude.{◌≡◌};
+ghost use Rattle.script.specs.Requests.{switch, rest_params, bias_params, magnetic_params, params, settings, numbers, construction, samples, asked, request};
 
 use crate::line::{Fault, Line};
-use crate::names::{
-    ACC, ASIN, COS, DIST, EXP, GET, GYR, GYRTS, MAGREF, MOTION, REST, SIN, SQRT, STATE, TAN,
-    TAU_ACC, TAU_MAG, TH, most,
-};
+use crate::names::Name;
 use algebra::Vector;
 use inertial::InertialParams;
 use inertial::types::BiasParams;
@@ -53,10 +47,7 @@ pub struct Samples {
 
 #[derive(Clone, Copy)]
 pub enum Request {
-    // A line without a word.
-    Nothing,
-    Bad(Fault),
-    // The value of a function, whose name is the line's.
+    // The value of a function.
     Value(f64),
     State,
     Get,
@@ -68,24 +59,6 @@ fn switch(x: f64) -> bool
     ensures { result ≡ switch x }
 {
     x == 1.0
-}
-
-fn interval(is_absent: bool, x: f64) -> Option<f64>
-    ensures { result ≡ interval is_absent x }
-{
-    if is_absent { None } else { Some(x) }
-}
-
-fn sample(is_absent: bool, v: Vector) -> Option<Vector>
-    ensures { result ≡ sample is_absent v }
-{
-    if is_absent { None } else { Some(v) }
-}
-
-fn sigma(is_absent: bool, x: f64) -> Option<f64>
-    ensures { result ≡ sigma is_absent x }
-{
-    if is_absent { None } else { Some(x) }
 }
 
 fn rest_params(values: [f64; 28]) -> RestParams
@@ -136,15 +109,14 @@ fn magnetic_params(values: [f64; 28]) -> MagneticParams
 fn params(values: [f64; 28]) -> Params
     ensures { result ≡ params values }
 {
-    let rest = rest_params(values);
-    let bias = bias_params(values);
-    let inertial = InertialParams {
-        tau_acc: values[3],
-        rest,
-        bias,
-    };
-    let magnetic = magnetic_params(values);
-    Params { inertial, magnetic }
+    Params {
+        inertial: InertialParams {
+            tau_acc: values[3],
+            rest: rest_params(values),
+            bias: bias_params(values),
+        },
+        magnetic: magnetic_params(values),
+    }
 }
 
 fn settings(is_house: bool, values: [f64; 28]) -> Option<Params>
@@ -153,164 +125,82 @@ fn settings(is_house: bool, values: [f64; 28]) -> Option<Params>
     if is_house { None } else { Some(params(values)) }
 }
 
-fn of_nothing(name: u64) -> Request
-    ensures { result ≡ of_nothing name }
-{
-    if name == STATE {
-        Request::State
-    } else if name == GET {
-        Request::Get
-    } else {
-        Request::Call(Call::Reset)
-    }
-}
-
-fn of_function(name: u64, x: f64) -> f64
-    ensures { result ≡ of_function name x }
-{
-    if name == SQRT {
-        numbers::sqrt(x)
-    } else if name == SIN {
-        numbers::sin(x)
-    } else if name == COS {
-        numbers::cos(x)
-    } else if name == TAN {
-        numbers::tan(x)
-    } else if name == EXP {
-        numbers::exp(x)
-    } else if name == ASIN {
-        numbers::asin(x)
-    } else {
-        numbers::acos(x)
-    }
-}
-
-fn of_one(name: u64, x: f64) -> Request
-    ensures { result ≡ of_one name x }
-{
-    if name == TAU_ACC {
-        Request::Call(Call::TauAcc(x))
-    } else if name == TAU_MAG {
-        Request::Call(Call::TauMag(x))
-    } else {
-        of_switch_or_function(name, x)
-    }
-}
-
-fn of_switch_or_function(name: u64, x: f64) -> Request
-    requires { (eqb name TAU_ACC ≡ false) × (eqb name TAU_MAG ≡ false) }
-    ensures { result ≡ of_one name x }
-{
-    if name == MOTION {
-        Request::Call(Call::Motion(switch(x)))
-    } else if name == REST {
-        Request::Call(Call::Rest(switch(x)))
-    } else if name == DIST {
-        Request::Call(Call::Dist(switch(x)))
-    } else {
-        Request::Value(of_function(name, x))
-    }
-}
-
-fn of_two(name: u64, x: f64, y: f64) -> Request
-    ensures { result ≡ of_two name x y }
-{
-    if name == TH {
-        Request::Call(Call::Thresholds(x, y))
-    } else if name == MAGREF {
-        Request::Call(Call::MagRef(x, y))
-    } else {
-        Request::Value(numbers::atan2(x, y))
-    }
-}
-
-fn of_three(name: u64, v: Vector) -> Request
-    ensures { result ≡ of_three name v }
-{
-    if name == GYR {
-        Request::Call(Call::Gyr(v))
-    } else if name == ACC {
-        Request::Call(Call::Acc(v))
-    } else {
-        Request::Call(Call::Mag(v))
-    }
-}
-
-fn of_four(name: u64, v: Vector, x: f64, is_absent: bool) -> Request
-    ensures { result ≡ of_four name v x is_absent }
-{
-    if name == GYRTS {
-        Request::Call(Call::GyrWithTs(v, x))
-    } else {
-        Request::Call(Call::Bias(v, sigma(is_absent, x)))
-    }
-}
-
 impl Line {
+    // The words behind the name as numbers; where none was given, 0.
+    fn numbers(self) -> [f64; 28]
+        ensures { result ≡ numbers self.values }
+    {
+        self.values.map(|value| value.unwrap_or(0.0))
+    }
+
     fn construction(self) -> Construction
         ensures { result ≡ construction self }
     {
+        let numbers = self.numbers();
         Construction {
-            gyr_ts: self.values[0],
-            acc_ts: interval(self.absent[1], self.values[1]),
-            mag_ts: interval(self.absent[2], self.values[2]),
-            settings: settings(self.is_house, self.values),
+            gyr_ts: numbers[0],
+            acc_ts: self.values[1],
+            mag_ts: self.values[2],
+            settings: settings(self.is_house, numbers),
         }
     }
 
     fn samples(self) -> Samples
         ensures { result ≡ samples self }
     {
+        let numbers = self.numbers();
         Samples {
-            gyr: Vector(self.values[0], self.values[1], self.values[2]),
-            acc: Vector(self.values[3], self.values[4], self.values[5]),
-            mag: sample(
-                self.absent[6],
-                Vector(self.values[6], self.values[7], self.values[8]),
-            ),
+            gyr: Vector(numbers[0], numbers[1], numbers[2]),
+            acc: Vector(numbers[3], numbers[4], numbers[5]),
+            mag: self.values[6].map(|x| Vector(x, numbers[7], numbers[8])),
         }
     }
 
-    fn vector(self) -> Vector
-        ensures { result ≡ vector (get_or self.values 0 nan) (get_or self.values 1 nan) (get_or self.values 2 nan) }
+    fn asked(self, name: Name) -> Request
+        ensures { result ≡ asked self name }
     {
-        Vector(self.values[0], self.values[1], self.values[2])
-    }
-
-    // By how many words follow its name at most.
-    fn by_words(self, words: usize) -> Request
-        ensures { result ≡ by_words self words }
-    {
-        if words == 0 {
-            of_nothing(self.name)
-        } else if words == 1 {
-            of_one(self.name, self.values[0])
-        } else if words == 2 {
-            of_two(self.name, self.values[0], self.values[1])
-        } else if words == 3 {
-            of_three(self.name, self.vector())
-        } else if words == 4 {
-            of_four(self.name, self.vector(), self.values[3], self.absent[3])
-        } else if words == 9 {
-            Request::Update(self.samples())
-        } else {
-            Request::Call(Call::New(self.construction()))
+        let numbers = self.numbers();
+        let x = numbers[0];
+        let y = numbers[1];
+        let v = Vector(x, y, numbers[2]);
+        match name {
+            Name::New => Request::Call(Call::New(self.construction())),
+            Name::Gyr => Request::Call(Call::Gyr(v)),
+            Name::GyrTs => Request::Call(Call::GyrWithTs(v, numbers[3])),
+            Name::Acc => Request::Call(Call::Acc(v)),
+            Name::Mag => Request::Call(Call::Mag(v)),
+            Name::Upd => Request::Update(self.samples()),
+            Name::TauAcc => Request::Call(Call::TauAcc(x)),
+            Name::TauMag => Request::Call(Call::TauMag(x)),
+            Name::Motion => Request::Call(Call::Motion(switch(x))),
+            Name::Rest => Request::Call(Call::Rest(switch(x))),
+            Name::Dist => Request::Call(Call::Dist(switch(x))),
+            Name::Th => Request::Call(Call::Thresholds(x, y)),
+            Name::Bias => Request::Call(Call::Bias(v, self.values[3])),
+            Name::MagRef => Request::Call(Call::MagRef(x, y)),
+            Name::Reset => Request::Call(Call::Reset),
+            Name::State => Request::State,
+            Name::Get => Request::Get,
+            Name::Sqrt => Request::Value(numbers::sqrt(x)),
+            Name::Sin => Request::Value(numbers::sin(x)),
+            Name::Cos => Request::Value(numbers::cos(x)),
+            Name::Tan => Request::Value(numbers::tan(x)),
+            Name::Exp => Request::Value(numbers::exp(x)),
+            Name::Asin => Request::Value(numbers::asin(x)),
+            Name::Acos => Request::Value(numbers::acos(x)),
+            Name::Atan2 => Request::Value(numbers::atan2(x, y)),
         }
     }
 
-    // What the line asks for once it has ended.
-    pub fn request(self) -> Request
+    // What the line asks for once it has ended, behind its name; nothing, if it has no word.
+    pub fn request(self) -> Result<Option<(Name, Request)>, Fault>
         ensures { result ≡ request self }
     {
-        if self.is_faulty {
-            let fault = self.fault;
-            Request::Bad(fault)
-        } else if self.name == 0 {
-            Request::Nothing
-        } else if self.is_complete() {
-            self.by_words(most(self.name))
-        } else {
-            Request::Bad(self.missing())
+        match (self.fault, self.name) {
+            (Some(fault), _) => Err(fault),
+            (None, None) => Ok(None),
+            (None, Some(name)) if self.is_complete(name) => Ok(Some((name, self.asked(name)))),
+            (None, Some(_)) => Err(self.missing()),
         }
     }
 }

@@ -6,7 +6,7 @@
 mod output;
 
 use crate::output::{print_head, print_row, print_value};
-use script::{Lines, Packed, Request};
+use script::{Lines, Name, Request};
 use std::fmt::InlineText;
 use std::io;
 use std::io::{Stderr, Stdin, Stdout};
@@ -20,12 +20,13 @@ fn main(rt: HostRuntime) -> io::Result<()> {
 fn play(stdin: Stdin, stdout: Stdout, stderr: Stderr) -> io::Result<()> {
     let mut filter = VQF::fresh();
     for (number, line) in (1..=u64::MAX).zip(Lines::from(stdin)) {
-        let line = line?;
-        let request = line.request();
-        if let Request::Bad(fault) = request {
-            return println!(stderr; "show: line {number}, {fault}");
+        match line?.request() {
+            Err(fault) => return println!(stderr; "show: line {number}, {fault}"),
+            Ok(None) => {}
+            Ok(Some((name, request))) => {
+                filter = answered(stdout, filter, number, name, request)?;
+            }
         }
-        filter = answered(stdout, filter, number, Packed(line.name), request)?;
     }
     Ok(())
 }
@@ -35,11 +36,10 @@ fn answered(
     stdout: Stdout,
     f: VQF,
     number: u64,
-    name: Packed,
+    name: Name,
     request: Request,
 ) -> io::Result<VQF> {
     match request {
-        Request::Nothing | Request::Bad(_) => Ok(f),
         Request::Value(x) => {
             print_value(stdout, number, name, x)?;
             Ok(f)

@@ -1,6 +1,6 @@
 // The table: line, call, answer, tilt, heading, rest, disturbed.
 use readable::Tenths;
-use script::Packed;
+use script::Name;
 use std::fmt::InlineText;
 use std::io::Stdout;
 use std::{fmt, io};
@@ -38,7 +38,7 @@ fn yes_or_no(is: bool) -> &'static str {
 pub fn print_row<A: fmt::Display + Drop>(
     stdout: Stdout,
     number: u64,
-    name: Packed,
+    name: Name,
     answer: A,
     f: VQF,
 ) -> io::Result<()> {
@@ -52,7 +52,7 @@ pub fn print_row<A: fmt::Display + Drop>(
 }
 
 // The row of a function's value, by its bits as `calls` prints them.
-pub fn print_value(stdout: Stdout, number: u64, name: Packed, x: f64) -> io::Result<()> {
+pub fn print_value(stdout: Stdout, number: u64, name: Name, x: f64) -> io::Result<()> {
     let bits = floats::to_bits(x);
     println!(stdout; "{number:>6}  {name:<7}  {bits:016x}")
 }

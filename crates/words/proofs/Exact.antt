@@ -5,7 +5,6 @@ use Rattle.floats.specs.Quotients.{div_is, divs}
 use Rattle.floats.specs.Fractions.{ac}
 use Rattle.floats.specs.Rounding.{round_neg}
 use Rattle.words.specs.Decimals.{signs}
-use Rattle.words.specs.declared.decimal.Number.TheVariants.{Of}
 
 -- ---- the powers of ten
 -- k, k + 1, .. , n numbers
@@ -87,6 +86,6 @@ times_ten n k h l = mul_whole _ _ n (10 ^ k) (whole n h) (ten_value k l)
 pub over_ten : (n k : ℕ) → n < 1000000000000000 → k ≤ 22 → div binary64 (of_int binary64 (pos n)) (power k) ≡ round binary64 false n (10 ^ k)
 over_ten n k h l = div_whole _ _ n (10 ^ k) (whole n h) (ten_value k l) (pow-le-pow_right {n = 10} (omega arith) {i = 0} {j = k} (omega arith))
 
-pub sign_rounded : (s : Bool) (a c : ℕ) → signs s (round binary64 false a c) ≡ Of (round binary64 s a c)
-sign_rounded true a c = ap Of (sym (round_neg binary64 a c))
+pub sign_rounded : (s : Bool) (a c : ℕ) → signs s (round binary64 false a c) ≡ round binary64 s a c
+sign_rounded true a c = sym (round_neg binary64 a c)
 sign_rounded false a c = refl

@@ -1,28 +1,24 @@
 // A decimal number, read a byte at a time.
-ghost use Rattle.std.specs.Prelude.{◌≡◌, ◌*◌, ◌^◌, ◌<◌, ◌≤◌, false};
+ghost use Rattle.std.specs.Prelude.{◌≡◌, ◌*◌, ◌^◌, ◌<◌, ◌≤◌, false, IfSome, MatchResult};
 ghost use Rattle.std.specs.Float.{binary64};
 ghost use Rattle.std.specs.Float.Ieee.{round};
-ghost use Rattle.words.specs.Decimals.{count, digit, after_point, after_letter, signed, power_signed, with_sign, extended, raised, with_whole, with_fraction, with_power, with_digit, at_stage, decimal_with, up, down, signs, scaled, value, ends, number};
+ghost use Rattle.words.specs.Decimals.{count, digit, after_point, after_letter, signed, power_signed, with_sign, extended, raised, with_whole, with_fraction, with_power, with_digit, at_stage, decimal_with, signs, scaled, value, ends, number};
+ghost use Rattle.words.specs.declared.decimal.NoNumber.TheVariants.{TooLong, TooFar};
 
 // How far the text is read: nothing; a sign; digits; a point with no digit before it; a point and a
 // digit; the letter of the power; its sign; its digits. Any other text is no decimal.
-const START: u8 = 0;
-
-const SIGNED: u8 = 1;
-
-const WHOLE: u8 = 2;
-
-const POINT: u8 = 3;
-
-const FRACTION: u8 = 4;
-
-const LETTER: u8 = 5;
-
-const LETTER_SIGNED: u8 = 6;
-
-const POWER: u8 = 7;
-
-const NONE: u8 = 8;
+#[derive(Clone, Copy, Debug, PartialEq, Eq)]
+pub enum Stage {
+    Start,
+    Signed,
+    Whole,
+    Point,
+    Fraction,
+    Letter,
+    LetterSigned,
+    Power,
+    Other,
+}
 
 // Fifteen digits are fewer than this.
 const TOO_LONG: u64 = 1_000_000_000_000_000;
@@ -61,7 +57,7 @@ const TENS: [f64; 23] = [
 // power, which `lowered` makes negative.
 #[derive(Clone, Copy)]
 pub struct Decimal {
-    pub stage: u8,
+    pub stage: Stage,
     pub negative: bool,
     pub digits: u64,
     pub places: u64,
@@ -69,13 +65,26 @@ pub struct Decimal {
     pub lowered: bool,
 }
 
-// What a text is as a number.
-#[derive(Clone, Copy)]
-pub enum Number {
-    None,
+// Why a text is read as no number.
+#[derive(Clone, Copy, Debug, PartialEq, Eq)]
+pub enum NoNumber {
+    NotANumber,
     TooLong,
     TooFar,
-    Of(f64),
+}
+
+// At most fifteen digits, as a whole number.
+#[derive(Clone, Copy)]
+struct Digits {
+    n: u64,
+    ghost is_short: { n < 1000000000000000 },
+}
+
+// The exponent of a power of ten that a float holds exactly.
+#[derive(Clone, Copy)]
+struct Exponent {
+    k: u64,
+    ghost is_near: { k ≤ 22 },
 }
 
 // One more, but never more than TOO_FAR.
@@ -85,124 +94,133 @@ pub(crate) fn count(n: u64) -> u64
     if n < TOO_FAR { n + 1 } else { TOO_FAR }
 }
 
-// The value of a lower-case digit in base 16, or 16.
-pub(crate) fn digit(byte: u8) -> u64
-    ensures { result ≡ digit byte }
+// The value of a lower-case digit in base 16.
+pub(crate) fn digit(byte: u8) -> Option<u8>
+    ensures value { result ≡ digit byte }
+    ensures upper_bound { IfSome result (λ d. d < 16) }
 {
-    if byte < b'0' {
-        16
-    } else if byte <= b'9' {
-        (byte - b'0') as u64
-    } else if byte < b'a' {
-        16
-    } else if byte <= b'f' {
-        (byte - 87) as u64
-    } else {
-        16
+    match byte {
+        b'0'..=b'9' => Some(byte - b'0'),
+        b'a'..=b'f' => Some(byte - b'a' + 10),
+        _ => None,
     }
 }
 
-fn after_point(stage: u8) -> u8
-    ensures { result ≡ after_point stage }
-{
-    if stage <= SIGNED {
-        POINT
-    } else if stage == WHOLE {
-        FRACTION
-    } else {
-        NONE
+impl Stage {
+    fn after_point(self) -> Stage
+        ensures { result ≡ after_point self }
+    {
+        match self {
+            Stage::Start | Stage::Signed => Stage::Point,
+            Stage::Whole => Stage::Fraction,
+            _ => Stage::Other,
+        }
     }
-}
 
-fn after_letter(stage: u8) -> u8
-    ensures { result ≡ after_letter stage }
-{
-    if (stage == WHOLE) | (stage == FRACTION) {
-        LETTER
-    } else {
-        NONE
+    fn after_letter(self) -> Stage
+        ensures { result ≡ after_letter self }
+    {
+        match self {
+            Stage::Whole | Stage::Fraction => Stage::Letter,
+            _ => Stage::Other,
+        }
+    }
+
+    // Whether a decimal can end here.
+    fn ends(self) -> bool
+        ensures { result ≡ ends self }
+    {
+        matches!(self, Stage::Whole | Stage::Fraction | Stage::Power)
     }
 }
 
 // The digits with one more behind them, or TOO_LONG.
-fn extended(digits: u64, digit: u64) -> u64
-    requires { digit ≤ 9 }
+fn extended(digits: u64, digit: u8) -> u64
     ensures { result ≡ extended digits digit }
 {
     if digits < 100_000_000_000_000 {
-        digits * 10 + digit
+        digits * 10 + u64::from(digit)
     } else {
         TOO_LONG
     }
 }
 
 // The same of the power, or TOO_FAR.
-fn raised(power: u64, digit: u64) -> u64
-    requires { digit ≤ 9 }
+fn raised(power: u64, digit: u8) -> u64
     ensures { result ≡ raised power digit }
 {
     if power < 100 {
-        power * 10 + digit
+        power * 10 + u64::from(digit)
     } else {
         TOO_FAR
     }
 }
 
-fn ten_to(k: u64) -> f64
-    requires { k ≤ 22 }
-    ensures { result ≡ round binary64 false (10 ^ k) 1 }
+fn ten_to(exponent: Exponent) -> f64
+    ensures { result ≡ round binary64 false (10 ^ exponent.k) 1 }
 {
-    let i = k as usize;
-    TENS[i]
+    TENS[exponent.k as usize]
 }
 
 // Digits and power are both floats exactly, so their product is rounded once.
-fn times(digits: u64, k: u64) -> f64
-    requires digits_bound { digits < 1000000000000000 }
-    requires k_bound { k ≤ 22 }
-    ensures { result ≡ round binary64 false (digits * 10 ^ k) 1 }
+fn times(digits: Digits, exponent: Exponent) -> f64
+    ensures { result ≡ round binary64 false (digits.n * 10 ^ exponent.k) 1 }
 {
-    std::num::nearest_u64_to_f64(digits) * ten_to(k)
+    std::num::nearest_u64_to_f64(digits.n) * ten_to(exponent)
 }
 
-fn over(digits: u64, k: u64) -> f64
-    requires digits_bound { digits < 1000000000000000 }
-    requires k_bound { k ≤ 22 }
-    ensures { result ≡ round binary64 false digits (10 ^ k) }
+fn over(digits: Digits, exponent: Exponent) -> f64
+    ensures { result ≡ round binary64 false digits.n (10 ^ exponent.k) }
 {
-    std::num::nearest_u64_to_f64(digits) / ten_to(k)
+    std::num::nearest_u64_to_f64(digits.n) / ten_to(exponent)
 }
 
-fn signs(negative: bool, magnitude: f64) -> Number
+fn signs(negative: bool, magnitude: f64) -> f64
     ensures { result ≡ signs negative magnitude }
 {
-    if negative {
-        Number::Of(-magnitude)
-    } else {
-        Number::Of(magnitude)
+    if negative { -magnitude } else { magnitude }
+}
+
+impl Digits {
+    fn of(n: u64) -> Result<Digits, NoNumber>
+        ensures { MatchResult result (λ d. d.n ≡ n) (λ e. (e ≡ TooLong) × (1000000000000000 ≤ n)) }
+    {
+        if n < TOO_LONG {
+            Ok(Digits { n })
+        } else {
+            Err(NoNumber::TooLong)
+        }
     }
 }
 
-fn scaled(negative: bool, digits: u64, up: u64, down: u64) -> Number
-    requires digits_bound { digits < 1000000000000000 }
-    requires up_bound { up ≤ 1000 }
-    requires down_bound { down ≤ 2000 }
-    ensures { result ≡ scaled negative digits up down }
+impl Exponent {
+    fn of(k: u64) -> Result<Exponent, NoNumber>
+        ensures { MatchResult result (λ e. (e.k ≡ k) × (k ≤ 22)) (λ e. (e ≡ TooFar) × (22 < k)) }
+    {
+        if k <= 22 {
+            Ok(Exponent { k })
+        } else {
+            Err(NoNumber::TooFar)
+        }
+    }
+}
+
+// The digits times ten as often as `up` says, and divided by ten as often as `down` says.
+fn scaled(negative: bool, digits: Digits, up: u64, down: u64) -> Result<f64, NoNumber>
+    ensures { result ≡ scaled negative digits.n up down }
 {
-    if up > down + 22 {
-        Number::TooFar
-    } else if down > up + 22 {
-        Number::TooFar
-    } else if up >= down {
-        signs(negative, times(digits, up - down))
+    if up >= down {
+        let exponent = Exponent::of(up - down)?;
+        Ok(signs(negative, times(digits, exponent)))
     } else {
-        signs(negative, over(digits, down - up))
+        let exponent = Exponent::of(down - up)?;
+        Ok(signs(negative, over(digits, exponent)))
     }
 }
 
 impl Decimal {
     pub const START: Decimal = Decimal {
-        stage: START,
+        stage: Stage::Start,
         negative: false,
         digits: 0,
         places: 0,
@@ -210,158 +228,116 @@ impl Decimal {
         lowered: false,
     };
 
-    fn at_stage(self, stage: u8) -> Decimal
+    fn at_stage(self, stage: Stage) -> Decimal
         ensures { result ≡ at_stage self stage }
     {
-        let mut next = self;
-        next.stage = stage;
-        next
+        Decimal { stage, ..self }
     }
 
     fn signed(self, minus: bool) -> Decimal
         ensures { result ≡ signed self minus }
     {
-        let mut next = self;
-        next.stage = SIGNED;
-        next.negative = minus;
-        next
+        Decimal {
+            stage: Stage::Signed,
+            negative: minus,
+            ..self
+        }
     }
 
     fn power_signed(self, minus: bool) -> Decimal
         ensures { result ≡ power_signed self minus }
     {
-        let mut next = self;
-        next.stage = LETTER_SIGNED;
-        next.lowered = minus;
-        next
+        Decimal {
+            stage: Stage::LetterSigned,
+            lowered: minus,
+            ..self
+        }
     }
 
     fn with_sign(self, minus: bool) -> Decimal
         ensures { result ≡ with_sign self minus }
     {
-        if self.stage == START {
-            self.signed(minus)
-        } else if self.stage == LETTER {
-            self.power_signed(minus)
-        } else {
-            self.at_stage(NONE)
+        match self.stage {
+            Stage::Start => self.signed(minus),
+            Stage::Letter => self.power_signed(minus),
+            _ => self.at_stage(Stage::Other),
         }
     }
 
-    fn with_whole(self, digit: u64) -> Decimal
-        requires { digit ≤ 9 }
+    fn with_whole(self, digit: u8) -> Decimal
         ensures { result ≡ with_whole self digit }
     {
-        let mut next = self;
-        next.stage = WHOLE;
-        next.digits = extended(self.digits, digit);
-        next
+        Decimal {
+            stage: Stage::Whole,
+            digits: extended(self.digits, digit),
+            ..self
+        }
     }
 
-    fn with_fraction(self, digit: u64) -> Decimal
-        requires { digit ≤ 9 }
+    fn with_fraction(self, digit: u8) -> Decimal
         ensures { result ≡ with_fraction self digit }
     {
-        let mut next = self;
-        next.stage = FRACTION;
-        next.digits = extended(self.digits, digit);
-        next.places = count(self.places);
-        next
+        Decimal {
+            stage: Stage::Fraction,
+            digits: extended(self.digits, digit),
+            places: count(self.places),
+            ..self
+        }
     }
 
-    fn with_power(self, digit: u64) -> Decimal
-        requires { digit ≤ 9 }
+    fn with_power(self, digit: u8) -> Decimal
         ensures { result ≡ with_power self digit }
     {
-        let mut next = self;
-        next.stage = POWER;
-        next.power = raised(self.power, digit);
-        next
+        Decimal {
+            stage: Stage::Power,
+            power: raised(self.power, digit),
+            ..self
+        }
     }
 
-    fn with_digit(self, digit: u64) -> Decimal
-        requires { digit ≤ 9 }
+    fn with_digit(self, digit: u8) -> Decimal
         ensures { result ≡ with_digit self digit }
     {
-        if self.stage <= WHOLE {
-            self.with_whole(digit)
-        } else if self.stage <= FRACTION {
-            self.with_fraction(digit)
-        } else if self.stage <= POWER {
-            self.with_power(digit)
-        } else {
-            self
+        match self.stage {
+            Stage::Start | Stage::Signed | Stage::Whole => self.with_whole(digit),
+            Stage::Point | Stage::Fraction => self.with_fraction(digit),
+            Stage::Letter | Stage::LetterSigned | Stage::Power => self.with_power(digit),
+            Stage::Other => self,
         }
     }
 
     pub(crate) fn with(self, byte: u8) -> Decimal
         ensures { result ≡ decimal_with self byte }
     {
-        let digit = digit(byte);
-        if digit < 10 {
-            self.with_digit(digit)
-        } else if byte == b'.' {
-            self.at_stage(after_point(self.stage))
-        } else if (byte == b'e') | (byte == b'E') {
-            self.at_stage(after_letter(self.stage))
-        } else if (byte == b'+') | (byte == b'-') {
-            self.with_sign(byte == b'-')
-        } else {
-            self.at_stage(NONE)
+        match byte {
+            b'0'..=b'9' => self.with_digit(byte - b'0'),
+            b'.' => self.at_stage(self.stage.after_point()),
+            b'e' | b'E' => self.at_stage(self.stage.after_letter()),
+            b'+' | b'-' => self.with_sign(byte == b'-'),
+            _ => self.at_stage(Stage::Other),
         }
     }
 
-    // How often the digits are multiplied by ten.
-    fn up(self) -> u64
-        requires { self.power ≤ 1000 }
-        ensures value { result ≡ up self }
-        ensures upper_bound { result ≤ 1000 }
-    {
-        if self.lowered { 0 } else { self.power }
-    }
-
-    // How often they are divided by ten.
-    fn down(self) -> u64
-        requires places_bound { self.places ≤ 1000 }
-        requires power_bound { self.power ≤ 1000 }
-        ensures value { result ≡ down self }
-        ensures upper_bound { result ≤ 2000 }
-    {
-        if self.lowered {
-            self.places + self.power
-        } else {
-            self.places
-        }
-    }
-
-    fn value(self) -> Number
+    fn value(self) -> Result<f64, NoNumber>
         ensures { result ≡ value self }
     {
-        if self.digits >= TOO_LONG {
-            Number::TooLong
-        } else if self.places >= TOO_FAR {
-            Number::TooFar
-        } else if self.power >= TOO_FAR {
-            Number::TooFar
+        let digits = Digits::of(self.digits)?;
+        if (self.places >= TOO_FAR) | (self.power >= TOO_FAR) {
+            Err(NoNumber::TooFar)
+        } else if self.lowered {
+            scaled(self.negative, digits, 0, self.places + self.power)
         } else {
-            scaled(self.negative, self.digits, self.up(), self.down())
+            scaled(self.negative, digits, self.power, self.places)
         }
     }
 
-    // Whether a decimal can end here.
-    fn ends(self) -> bool
-        ensures { result ≡ ends self.stage }
-    {
-        (self.stage == WHOLE) | (self.stage == FRACTION) | (self.stage == POWER)
-    }
-
-    pub(crate) fn number(self) -> Number
+    pub(crate) fn number(self) -> Result<f64, NoNumber>
         ensures { result ≡ number self }
     {
-        if self.ends() {
+        if self.stage.ends() {
             self.value()
         } else {
-            Number::None
+            Err(NoNumber::NotANumber)
         }
     }
 }

@@ -4,5 +4,5 @@
 mod decimal;
 pub mod word;
 
-pub use decimal::{Decimal, Number};
+pub use decimal::{Decimal, NoNumber, Stage};
 pub use word::Word;

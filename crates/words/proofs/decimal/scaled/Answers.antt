@@ -1,21 +1,23 @@
--- The definition, by what each call gives and the tests that led here; a sign may be set after rounding.
-use Rattle.words.proofs.Exact.{sign_rounded}
-use Rattle.floats.specs.Prelude.{le-leb, le-ltb, lt-leb, lt-ltb}
-use Rattle.words.specs.Decimals.{scaled}
+-- The power goes up or down, and is near or too far.
+use Rattle.floats.specs.Prelude.{sym}
+use Rattle.std.proofs.lemmas.Result.{err_from_is_err_and}
+use Rattle.words.proofs.Scaled.{scaled_up, scaled_down, far_up, far_down}
 use Rattle.words.proofs.decimal.scaled.Goals as goal
 
-pub returns-then-up-down : goal.returns-then-up-down
-unfolding scaled
-returns-then-up-down c = simp (lt-ltb _ _ c.if-up-down.true)
+pub returns-in_err-exponent : goal.returns-in_err-exponent
+returns-in_err-exponent c =
+    let p = err_from_is_err_and c.from_residual.result c.from_residual.ensures.1 in
+    rw (p.1, p.2, c.in_err-exponent.ensures.0) (sym (far_up _ _ _ _ c.if-up-down.true c.in_err-exponent.ensures.1))
 
-pub returns-then-down-up : goal.returns-then-down-up
-unfolding scaled
-returns-then-down-up c = simp (lt-ltb _ _ c.if-down-up.true, le-ltb _ _ c.if-up-down.false)
+pub returns-in_ok-exponent : goal.returns-in_ok-exponent
+returns-in_ok-exponent c =
+    simp (c.signs.ensures, c.times.ensures, c.in_ok-exponent.ensures.0) (sym (scaled_up _ _ _ _ c.if-up-down.true c.in_ok-exponent.ensures.1))
 
-pub returns-then-up-down-2 : goal.returns-then-up-down-2
-unfolding scaled
-returns-then-up-down-2 c = simp (c.signs.ensures, c.times.ensures, le-leb _ _ c.if-up-down-2.true, le-ltb _ _ c.if-down-up.false, le-ltb _ _ c.if-up-down.false) (sign_rounded _ _ _)
+pub returns-in_err-exponent-2 : goal.returns-in_err-exponent-2
+returns-in_err-exponent-2 c =
+    let p = err_from_is_err_and c.from_residual-in_err-exponent-2.result c.from_residual-in_err-exponent-2.ensures.1 in
+    rw (p.1, p.2, c.in_err-exponent-2.ensures.0) (sym (far_down _ _ _ _ c.if-up-down.false c.in_err-exponent-2.ensures.1))
 
-pub returns-else-up-down-2 : goal.returns-else-up-down-2
-unfolding scaled
-returns-else-up-down-2 c = simp (c.signs-else-up-down-2.ensures, c.over.ensures, lt-leb _ _ c.if-up-down-2.false, le-ltb _ _ c.if-down-up.false, le-ltb _ _ c.if-up-down.false) (sign_rounded _ _ _)
+pub returns-in_ok-exponent-2 : goal.returns-in_ok-exponent-2
+returns-in_ok-exponent-2 c =
+    simp (c.signs-else-up-down.ensures, c.over.ensures, c.in_ok-exponent-2.ensures.0) (sym (scaled_down _ _ _ _ c.if-up-down.false c.in_ok-exponent-2.ensures.1))

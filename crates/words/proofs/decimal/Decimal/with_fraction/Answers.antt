@@ -1,5 +1,0 @@
--- The definition, by what each call gives.
-use Rattle.words.proofs.decimal.Decimal.with_fraction.Goals as goal
-
-pub returns : goal.returns
-returns c = simp (c.count.ensures, c.extended.ensures)
