@@ -1,10 +1,9 @@
 -- What is told of a line that is no call.
 use Rattle.std.specs.Prelude.{ℕ, List, cond, ltb, ◌&&◌, codes}
 use Rattle.script.specs.declared.line.What.{What}
-use Rattle.script.specs.declared.line.What.TheVariants.{Nothing, NoCall, NoNumber, TooLong, TooFar, NoSwitch, TooMany, Missing}
+use Rattle.script.specs.declared.line.What.TheVariants.{NoCall, NoNumber, TooLong, TooFar, NoSwitch, TooMany, Missing}
 
 abbrev pub what_text : What → List ℕ
-what_text Nothing = codes "nothing is wrong"
 what_text NoCall = codes "no call has this name"
 what_text NoNumber = codes "no number; a number is 16 lower-case hex digits or a decimal such as -9.81"
 what_text TooLong = codes "more than 15 digits; write such a number in 16 hex digits"

@@ -11,7 +11,6 @@ impl fmt::Display for What {
 
     fn fmt<W: fmt::Write>(&self, f: &mut fmt::Formatter<W>) -> fmt::Result {
         f.write_str(match self {
-            What::Nothing => "nothing is wrong",
             What::NoCall => "no call has this name",
             What::NoNumber =>
                 "no number; a number is 16 lower-case hex digits or a decimal such as -9.81",

@@ -3,7 +3,6 @@ use Rattle.floats.specs.Prelude.{◌≡◌, ◌<◌, ◌∙◌, sym, length, Flo
 use Rattle.floats.specs.Notation.{zero}
 use Rattle.std.proofs.Common.{None, Option, arith, rules, unwrap_or}
 use Rattle.std.proofs.lemmas.List.{same_lists, get_or-map, length-map}
-use Rattle.script.specs.Requests.{numbers}
 use Rattle.script.proofs.line.Line.numbers.Goals as goal
 
 pub returns : goal.returns
