@@ -32,7 +32,7 @@ fn shown(byte: u8) -> u8
 
 // The first bytes of a word, as `Word` packs them.
 #[derive(Clone, Copy)]
-pub struct Packed(pub u64);
+struct Packed(u64);
 
 impl fmt::Display for Packed {
     fn fmt<W: fmt::Write>(&self, f: &mut fmt::Formatter<W>) -> fmt::Result {
