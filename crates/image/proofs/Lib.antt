@@ -1,3 +1,4 @@
 pub mod Put
 pub mod Settings
+pub mod Made
 pub mod Inverse

@@ -81,11 +81,7 @@ fn channels<const N: usize>(s: &[f64; SIZE], at: usize) -> [Channel; N]
     requires { at + 3 * N ≤ SIZE }
     ensures { result ≡ channels N s.now at }
 {
-    let mut bank = [Channel::FRESH; N];
-    for (i, c) in bank.iter_mut().enumerate() {
-        *c = channel_at(s, at + 3 * i);
-    }
-    bank
+    std::array::from_fn(|i| channel_at(s, at + 3 * i))
 }
 
 // The settings, with which an image begins.

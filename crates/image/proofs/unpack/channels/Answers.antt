@@ -1,20 +1,12 @@
--- After i turns the first i channels are read.
-use Rattle.std.proofs.Math.Seq.{take-suc-set}
-use Rattle.std.proofs.lemmas.List.{take_all}
-use Rattle.std.proofs.Math.ListN.{length-replicate}
-use Rattle.floats.specs.Prelude.{refl, sym, ap, ◌∙◌, ◌++◌, [], ◌∷◌, ℕ, add-one, le_antisymm, arith, length-set}
-use Rattle.image.specs.Unpack.{channels}
+-- Each channel is what the call at its place gives.
+use Rattle.std.proofs.Common.{of_calls, rules}
+use Rattle.floats.specs.Prelude.{ℕ, ◌+◌, ◌*◌}
+use Rattle.image.specs.Unpack.{channel_at}
+use Rattle.image.proofs.Made.{made, bank_made}
 use Rattle.image.proofs.unpack.channels.Goals as goal
 
-pub loop-i-init : goal.loop-i-init
-unfolding channels
-loop-i-init g c = (refl, simp length-replicate)
-
-pub loop-i-preserved : goal.loop-i-preserved
-unfolding channels
-loop-i-preserved g c = let l = c.loop-i in
-    (rw add-one (take-suc-set l.c-items l.i _ (omega arith) ∙ (λ j. l.invariant.0 j ++ c.channel_at.ensures j ∷ [])), length-set l.c-items _ _ ∙ l.invariant.1)
-
 pub returns : goal.returns
-returns g c = let l = c.loop-i in
-    sym (take_all l.i l.c-items (omega arith)) ∙ l.invariant.0 ∙ ap (λ (n : ℕ). channels n c.args.s.now c.args.at) (le_antisymm l.auto.i-end c.loop-i-test.false)
+returns g c = let s = c.args in
+    let m = c.from_fn.ensures.items in
+    bank_made s.s.now s.at g.row.N _ m.long
+    (made _ (λ (k : ℕ). channel_at s.s.now (s.at + 3 * k)) _ (λ k y q e. (search (of_calls, rules, e), search (of_calls, rules, e))) _ g.row.N m)
