@@ -1,5 +1,8 @@
 -- Runs that are written one after the other are one run, by recursion over the list; so the six parts of an image are the whole (`put_pack`).
-use Rattle.std.proofs.Common.{length-append, take-append-drop}
+use borrow.Rule.Slice.PartMut.{put_mid}
+use Rattle.std.proofs.lemmas.List.{take_all}
+use Rattle.std.proofs.lemmas.Slice.{put_mid-paste}
+use Rattle.std.proofs.Common.{append_assoc, le_refl, length-append, take-append-drop}
 use Rattle.floats.specs.Prelude.{◌≡◌, refl, sym, ap, ◌∙◌, List, [], ◌∷◌, ◌++◌, append-nil, ℕ, zero, suc, ◌+◌, ◌*◌, ◌≤◌, zero-add, add-zero, suc-add, add-suc, suc_inj, arith, length, take, drop, Float}
 use Rattle.filters.specs.declared.channel.Channel.{Channel}
 use Rattle.vqf.specs.declared.types.VQF.{VQF}
@@ -47,8 +50,8 @@ put_all (x ∷ xs) [] h = absurd (no h)
     no h = omega arith
 put_all (x ∷ xs) (y ∷ l) h = ap (λ (t : List Float). x ∷ t) (put_all xs l (suc_inj h))
 
--- a run that fits, as the library writes it
-pub put_at : (xs l : List Float) (n : ℕ) → n + length xs ≤ length l → put xs l n ≡ take n l ++ (xs ++ drop (n + length xs) l)
+-- a run that fits: what stands before it, the run, and what stands after it
+put_at : (xs l : List Float) (n : ℕ) → n + length xs ≤ length l → put xs l n ≡ take n l ++ (xs ++ drop (n + length xs) l)
 unfolding put
 put_at [] l n h = simp (add-zero, take-append-drop) refl
 put_at (x ∷ xs) [] n h = absurd (omega arith)
@@ -57,6 +60,15 @@ put_at (x ∷ xs) (y ∷ l) zero h =
 put_at (x ∷ xs) (y ∷ l) (suc n) h =
     ap (λ (t : List Float). y ∷ t) (put_at (x ∷ xs) l n (omega arith))
     ∙ ap (λ (k : ℕ). (y ∷ take n l) ++ ((x ∷ xs) ++ drop k (y ∷ l))) (sym (suc-add n (suc (length xs))))
+
+-- a run as the library copies it over a part of a list
+pub copied : (a k : ℕ) (xs l ys : List Float) → ys ≡ xs → k ≡ length xs → a + length xs ≤ length l → put_mid a k l ys ≡ put xs l a
+copied a k xs l ys e n h =
+    let m = length xs in
+    put_mid-paste a k l ys xs m e (sym n) refl
+    ∙ ap (λ (t : List Float). (take a l ++ t) ++ drop (a + m) l) (take_all m xs (le_refl m))
+    ∙ append_assoc (take a l) xs (drop (a + m) l)
+    ∙ sym (put_at xs l a h)
 
 -- one channel more
 length_channels : (n : ℕ) (c : List Channel) → length (channels n c) ≡ 3 * n

@@ -194,6 +194,7 @@ fn magnetic_state(s: MagneticState) -> [f64; 14]
 }
 
 // Writes xs over the image, from the place at on.
+#[tactic(auto, using(crate::proofs::Put::copied))]
 fn put(image: &mut [f64; SIZE], at: usize, xs: &[f64])
     requires { at + length xs.now ≤ SIZE }
     ensures { image.new ≡ put xs.now image.old at }

@@ -245,6 +245,7 @@ fn read_params(s: &[f64; SETTINGS]) -> Params
     }
 }
 
+#[tactic(auto, using(crate::proofs::Settings::inertial_settings))]
 fn read_inertial(s: &[f64; SIZE]) -> Inertial
     ensures { result ≡ inertial s.now }
 {
@@ -259,6 +260,7 @@ fn read_inertial(s: &[f64; SIZE]) -> Inertial
     }
 }
 
+#[tactic(auto, using(crate::proofs::Settings::magnetic_settings))]
 fn read_magnetic(s: &[f64; SIZE]) -> Magnetic
     ensures { result ≡ magnetic s.now }
 {
