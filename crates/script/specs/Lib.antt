@@ -4,3 +4,4 @@ pub mod Requests
 pub mod Readers
 pub mod Plays
 pub mod Printed
+pub mod ReadLines

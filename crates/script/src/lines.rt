@@ -1,4 +1,6 @@
 // The lines of a script; the last ends where the input does.
+ghost use Rattle.script.specs.ReadLines.{YieldsLine};
+
 use crate::line::Line;
 use crate::reader::Reader;
 use std::io;
@@ -23,6 +25,8 @@ impl<R: Read> From<R> for Lines<R> {
 impl<R: Read + Drop> Iterator for Lines<R> {
     type Item = io::Result<Line>;
 
+    ghost next_gives = { λ s r t. YieldsLine s.input r t.input };
+
     // A proved loop has to end, and nothing says that a line does: no run has as many bytes as a
     // number can count.
     fn next(&mut self) -> Option<io::Result<Line>> {
@@ -31,15 +35,14 @@ impl<R: Read + Drop> Iterator for Lines<R> {
         }
         let mut reader = Reader::START;
         for _turn in 0..u64::MAX {
-            let byte = match self.input.next() {
-                Some(Ok(byte)) => byte,
+            match self.input.next() {
+                Some(Ok(byte)) => reader = reader.with(byte),
                 Some(Err(error)) => return Some(Err(error)),
                 None => {
                     self.is_over = true;
-                    b'\n'
+                    return Some(Ok(reader.with(b'\n').line));
                 }
-            };
-            reader = reader.with(byte);
+            }
             if reader.is_ended {
                 return Some(Ok(reader.line));
             }

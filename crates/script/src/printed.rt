@@ -4,7 +4,6 @@ ghost use Rattle.script.specs.Printed.{what_text, shown};
 
 use crate::line::{Fault, What};
 use std::fmt;
-use std::fmt::{InlineText, Write};
 
 impl fmt::Display for What {
     ghost output = { λ w. Some (what_text w) };
@@ -37,11 +36,10 @@ struct Packed(u64);
 impl fmt::Display for Packed {
     fn fmt<W: fmt::Write>(&self, f: &mut fmt::Formatter<W>) -> fmt::Result {
         let bytes = self.0.to_be_bytes();
-        let mut text = InlineText::<7>::new();
         for byte in bytes.iter().skip_while(|byte| **byte == 0).skip(1) {
-            text.write_char(char::from(shown(*byte)))?;
+            f.write_char(char::from(shown(*byte)))?;
         }
-        f.pad(text.as_str())
+        Ok(())
     }
 }
 
