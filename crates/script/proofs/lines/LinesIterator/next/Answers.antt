@@ -1,5 +1,5 @@
 -- What the reader gives for the byte, or for the end of the line.
-use Rattle.std.proofs.Common.{◌≡◌, Bool, true, false, sym, ◌∙◌, ap}
+use Rattle.std.proofs.Common.{sym, ◌∙◌, ap}
 use Rattle.script.proofs.ReadLines.{taken, goes-on, ends, ends-last}
 use Rattle.script.proofs.lines.LinesIterator.next.Goals as goal
 
