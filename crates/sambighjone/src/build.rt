@@ -13,11 +13,11 @@ use limits::Answer;
 use vqf::{Updated, VQF};
 
 // The house filter.
+#[tactic(auto, unfolding(crate::specs::Calls::fed))]
 pub fn sambighjone_fresh(image: &mut [f64]) -> u32
     ensures { told result image.new ≡ fed (λ f. told 0 (fresh binary64)) image.old }
 {
-    let u = fresh(Answer::Done);
-    keep(image, u)
+    keep(image, fresh(Answer::Done))
 }
 
 // The house filter, beside an answer.
@@ -34,16 +34,16 @@ fn a_flag(x: f64) -> bool
     (x == 0.0) | (x == 1.0)
 }
 
-fn flags_taken(settings: &[f64]) -> bool
-    requires { SETTINGS ≤ length settings.now }
+#[tactic(auto, unfolding(crate::specs::Calls::flags_taken))]
+fn flags_taken(settings: &[f64; SETTINGS]) -> bool
     ensures { result ≡ flags_taken settings.now }
 {
     a_flag(settings[1]) & a_flag(settings[2]) & a_flag(settings[8])
 }
 
 // What a refused flag leaves is what the constructor leaves beside a 4.
-fn constructed(gyr_ts: f64, acc_ts: f64, mag_ts: f64, settings: &[f64]) -> Updated
-    requires { SETTINGS ≤ length settings.now }
+#[tactic(auto, unfolding(crate::specs::Calls::constructed))]
+fn constructed(gyr_ts: f64, acc_ts: f64, mag_ts: f64, settings: &[f64; SETTINGS]) -> Updated
     ensures { told_of result ≡ constructed gyr_ts acc_ts mag_ts settings.now }
 {
     if flags_taken(settings) {
@@ -59,6 +59,7 @@ fn constructed(gyr_ts: f64, acc_ts: f64, mag_ts: f64, settings: &[f64]) -> Updat
 }
 
 // A filter with intervals and settings of its own.
+#[tactic(auto, unfolding(crate::specs::Calls::built, crate::specs::Calls::fed))]
 pub fn sambighjone_build(
     image: &mut [f64],
     gyr_ts: f64,
@@ -68,9 +69,8 @@ pub fn sambighjone_build(
 ) -> u32
     ensures { told result image.new ≡ built gyr_ts acc_ts mag_ts settings.now image.old }
 {
-    if settings.len() != SETTINGS {
-        return WRONG_LENGTH;
+    match settings.as_array::<SETTINGS>() {
+        None => WRONG_LENGTH,
+        Some(settings) => keep(image, constructed(gyr_ts, acc_ts, mag_ts, settings)),
     }
-    let u = constructed(gyr_ts, acc_ts, mag_ts, settings);
-    keep(image, u)
 }

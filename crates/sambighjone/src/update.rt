@@ -7,7 +7,7 @@ ghost use Rattle.image.specs.Unpack.{vector};
 ghost use Rattle.sambighjone.specs.Calls.{sampled, magnetometer, stepped, first_refusal, summed_up, updated, given};
 
 use crate::kept::{WRONG_LENGTH, keep};
-use crate::put::put_three;
+use crate::put::put;
 use algebra::Vector;
 use image::SIZE;
 use limits::Answer;
@@ -26,12 +26,12 @@ fn vector(samples: &[f64], at: usize) -> Vector
     Vector(samples[at], samples[at + 1], samples[at + 2])
 }
 
+#[tactic(auto, unfolding(crate::specs::Calls::magnetometer))]
 fn magnetometer(samples: &[f64]) -> Option<Vector>
     ensures { result ≡ magnetometer samples.now }
 {
     if samples.len() == 9 {
-        let v = vector(samples, 6);
-        Some(v)
+        Some(vector(samples, 6))
     } else {
         None
     }
@@ -41,19 +41,20 @@ fn stepped(image: &[f64], samples: &[f64]) -> UpdatedAll
     requires { 6 ≤ length samples.now }
     ensures { all_told result ≡ stepped (unpack image.now) samples.now }
 {
-    let f = image::unpack::unpack(image);
-    let gyr = vector(samples, 0);
-    let acc = vector(samples, 3);
-    let mag = magnetometer(samples);
-    f.update(gyr, acc, mag)
+    image::unpack::unpack(image).update(
+        vector(samples, 0),
+        vector(samples, 3),
+        magnetometer(samples),
+    )
 }
 
+#[tactic(auto, unfolding(crate::specs::Calls::first_refusal))]
 fn first_refusal(gyr: Answer, acc: Answer, mag: Answer) -> Answer
     ensures { number result ≡ first_refusal (number gyr) (number acc) (number mag) }
 {
-    if gyr.number() != 0 {
+    if gyr != Answer::Done {
         gyr
-    } else if acc.number() != 0 {
+    } else if acc != Answer::Done {
         acc
     } else {
         mag
@@ -64,37 +65,22 @@ fn first_refusal(gyr: Answer, acc: Answer, mag: Answer) -> Answer
 fn summed_up(all: UpdatedAll) -> Updated
     ensures { told_of result ≡ summed_up (all_told all) }
 {
-    let gyr = all.gyr;
-    let acc = all.acc;
-    let mag = all.mag;
-    let answer = first_refusal(gyr, acc, mag);
-    let filter = all.filter;
-    Updated { answer, filter }
-}
-
-fn put_answers(out: &mut [u32], gyr: Answer, acc: Answer, mag: Answer) -> u32
-    ensures { told result out.new ≡ given (number gyr ∷ number acc ∷ number mag ∷ []) out.old }
-{
-    put_three(out, gyr.number(), acc.number(), mag.number())
+    let answer = first_refusal(all.gyr, all.acc, all.mag);
+    Updated {
+        answer,
+        filter: all.filter,
+    }
 }
 
 // The gyroscope's and the accelerometer's three numbers, and the magnetometer's or none.
 pub fn sambighjone_update(image: &mut [f64], samples: &[f64], answers: &mut [u32]) -> u32
     ensures { told result (image.new, answers.new) ≡ updated samples.now image.old answers.old }
 {
-    if image.len() != SIZE {
-        return WRONG_LENGTH;
-    }
-    if answers.len() != 3 {
-        return WRONG_LENGTH;
-    }
-    if !sampled(samples) {
+    if image.len() != SIZE || answers.len() != 3 || !sampled(samples) {
         return WRONG_LENGTH;
     }
     let all = stepped(image, samples);
-    let gyr = all.gyr;
-    let acc = all.acc;
-    let mag = all.mag;
-    put_answers(answers, gyr, acc, mag);
+    let numbers = [all.gyr.number(), all.acc.number(), all.mag.number()];
+    put(answers, &numbers);
     keep(image, summed_up(all))
 }

@@ -1,6 +1,0 @@
--- The call by value, on what is read of the image.
-use Rattle.sambighjone.proofs.Laws.{fed_done}
-use Rattle.sambighjone.proofs.feed.sambighjone_feed_acc.Goals as goal
-
-pub returns : goal.returns
-returns c = fed_done _ _ c.unpack-f.result c.update_acc-u.result _ c.unpack-f.ensures c.update_acc-u.ensures c.keep.ensures
