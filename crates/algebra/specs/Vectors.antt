@@ -1,6 +1,6 @@
 -- Three components, and the source's helpers for an array of three, over the format w.
-use Rattle.std.specs.Prelude.{Bool, ◌&&◌, cond, Float}
-use Rattle.std.specs.Float.{Format}
+use Rattle.std.specs.Prelude.{Bool, ◌&&◌, cond, List, [], ◌∷◌, get_or, Float}
+use Rattle.std.specs.Float.{nan, Format}
 use Rattle.std.specs.Float.Ieee.{lt}
 use Rattle.std.specs.Float.Ieee.Scale as scale
 use Rattle.floats.specs.Notation.{rounded, constant, zero}
@@ -16,6 +16,12 @@ vector x y z = record { 0 = x; 1 = y; 2 = z }
 
 abbrev pub origin : Format → Vector
 origin w = vector (zero w) (zero w) (zero w)
+
+abbrev pub components : Vector → List Float
+components v = v.0 ∷ v.1 ∷ v.2 ∷ []
+
+abbrev pub of_components : List Float → Vector
+of_components xs = vector (get_or xs 0 nan) (get_or xs 1 nan) (get_or xs 2 nan)
 
 -- component by component
 abbrev pub each : (Float → Float) → Vector → Vector

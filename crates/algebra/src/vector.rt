@@ -1,6 +1,6 @@
 ghost use Rattle.std.specs.Prelude.{◌≡◌};
 ghost use Rattle.std.specs.Float.{binary64};
-ghost use Rattle.algebra.specs.Vectors.{norm, normalize, clipped, clip, finite};
+ghost use Rattle.algebra.specs.Vectors.{norm, normalize, clipped, clip, finite, components, of_components};
 
 // 2^-52: what is shorter is not normalized.
 pub const EPSILON: f64 = 2.220446049250313e-16;
@@ -58,5 +58,21 @@ impl Vector {
         ensures { result ≡ finite self }
     {
         floats::finite(self.0) & floats::finite(self.1) & floats::finite(self.2)
+    }
+}
+
+impl From<Vector> for [f64; 3] {
+    ghost from_gives = { λ v r. r ≡ components v };
+
+    fn from(v: Vector) -> [f64; 3] {
+        [v.0, v.1, v.2]
+    }
+}
+
+impl From<[f64; 3]> for Vector {
+    ghost from_gives = { λ x r. r ≡ of_components x };
+
+    fn from(x: [f64; 3]) -> Vector {
+        Vector(x[0], x[1], x[2])
     }
 }

@@ -2,15 +2,13 @@
 use Rattle.std.specs.Prelude.{Bool, true, ◌&&◌, List, [], ◌∷◌, map, ℕ, zero, suc, get_or, Float}
 use Rattle.std.specs.Float.{nan, Format}
 use Rattle.floats.specs.Notation.{narrow}
-use Rattle.algebra.specs.Vectors.{vector}
+use Rattle.algebra.specs.Vectors.{components, of_components}
 use Rattle.algebra.specs.declared.vector.Vector.{Vector}
 use Rattle.filters.specs.Channels.{averaging, filter_channel, filter_adapt_state_for_coeff_change, first_number, finite_channel}
 use Rattle.filters.specs.declared.coeffs.Coeffs.{Coeffs}
 use Rattle.filters.specs.declared.channel.Channel.{Channel}
 use Rattle.filters.specs.declared.channel.Filtered.{Filtered}
-use Rattle.filters.specs.declared.bank.Filtered2.{Filtered2}
-use Rattle.filters.specs.declared.bank.Filtered3.{Filtered3}
-use Rattle.filters.specs.declared.bank.Filtered9.{Filtered9}
+use Rattle.filters.specs.declared.bank.Bank.{Bank}
 
 -- k, k + 1, .. , n numbers
 abbrev pub from : ℕ → ℕ → List ℕ
@@ -32,11 +30,10 @@ sample xs i = get_or xs i nan
 abbrev pub channel : List Channel → ℕ → Channel
 channel cs i = get_or cs i (averaging nan nan)
 
-abbrev pub components : Vector → List Float
-components v = v.0 ∷ v.1 ∷ v.2 ∷ []
-
-abbrev pub of_components : List Float → Vector
-of_components xs = vector (sample xs 0) (sample xs 1) (sample xs 2)
+-- what a bank of three answers to a vector, and its channels after it
+pub record FilteredVector : Type 0 where
+  pub y : Vector
+  pub channels : List Channel
 
 module _ (w : Format) where
   abbrev pub filtered : List Float → Float → Float → Coeffs → List Channel → ℕ → Filtered
@@ -48,16 +45,12 @@ module _ (w : Format) where
   unfoldable pub channels : ℕ → List Float → Float → Float → Coeffs → List Channel → List Channel
   channels n xs tau ts k cs = each n (λ i. (filtered xs tau ts k cs i).channel)
 
-  unfoldable pub filter_vec2 : List Float → Float → Float → Coeffs → List Channel → Filtered2
-  filter_vec2 xs tau ts k cs = record { y = outputs 2 xs tau ts k cs; channels = channels 2 xs tau ts k cs }
+  abbrev pub filter_vec : (n : ℕ) → List Float → Float → Float → Coeffs → List Channel → Bank n
+  filter_vec n xs tau ts k cs = record { y = outputs n xs tau ts k cs; channels = channels n xs tau ts k cs }
 
-  unfoldable pub filter_vec3 : Vector → Float → Float → Coeffs → List Channel → Filtered3
-  filter_vec3 v tau ts k cs =
-      let xs = components v in
-      record { y = of_components (outputs 3 xs tau ts k cs); channels = channels 3 xs tau ts k cs }
-
-  unfoldable pub filter_vec9 : List Float → Float → Float → Coeffs → List Channel → Filtered9
-  filter_vec9 xs tau ts k cs = record { y = outputs 9 xs tau ts k cs; channels = channels 9 xs tau ts k cs }
+  -- a vector, one channel for each component
+  unfoldable pub filter_vec3 : Vector → Float → Float → Coeffs → List Channel → FilteredVector
+  filter_vec3 v tau ts k cs = let f = filter_vec 3 (components v) tau ts k cs in record { y = of_components f.y; channels = f.channels }
 
   -- the source takes the first memory for the last answer, to which it is close
   unfoldable pub first_numbers : ℕ → List Channel → List Float
@@ -66,14 +59,9 @@ module _ (w : Format) where
 unfoldable pub adapted : ℕ → List Float → Coeffs → Coeffs → List Channel → List Channel
 adapted n ys old new cs = each n (λ i. filter_adapt_state_for_coeff_change (sample ys i) old new (channel cs i))
 
-unfoldable pub adapt2 : List Float → Coeffs → Coeffs → List Channel → List Channel
-adapt2 = adapted 2
-
+-- after an answer that is a vector
 unfoldable pub adapt3 : Vector → Coeffs → Coeffs → List Channel → List Channel
 adapt3 v = adapted 3 (components v)
-
-unfoldable pub adapt9 : List Float → Coeffs → Coeffs → List Channel → List Channel
-adapt9 = adapted 9
 
 unfoldable pub finite_channels : ℕ → List Channel → Bool
 finite_channels n cs = every n (λ i. finite_channel (channel cs i))

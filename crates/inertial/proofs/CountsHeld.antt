@@ -5,7 +5,6 @@ use Rattle.floats.specs.Tests.{keeps}
 use Rattle.floats.specs.Order.{le_tr}
 use Rattle.algebra.specs.declared.matrix.NoInverse.{NoInverse}
 use Rattle.algebra.specs.declared.vector.Vector.{Vector}
-use Rattle.filters.specs.Banks.{filter_vec2, filter_vec9, adapt2, adapt9}
 use Rattle.filters.specs.Counts.{all_from_zero}
 use Rattle.filters.proofs.Counts.{channels_from_zero, adapted_from_zero, fresh_from_zero}
 use Rattle.limits.specs.Limits.{shortest_interval}
@@ -46,7 +45,7 @@ module _ (w : Format) where
 
   module _ (f : Inertial) (h : CountsHeld f) where
     bias_held : (v : Vector) → BiasHeld (bias_of w f v).value
-    unfolding bias_step smoothed filter_vec9 filter_vec2
+    unfolding bias_step smoothed
     bias_held v =
         let b = f.state.bias in
         let tau = f.params.tau_acc in
@@ -57,7 +56,7 @@ module _ (w : Format) where
         h.2
 
   held : Invariant w CountsHeld
-  unfolding setters.adapted_bias adapt2 adapt9 setters.set_motion_bias_est_enabled setters.set_rest_bias_est_enabled setters.set_mag_dist_rejection_enabled setters.with_estimate setters.reset_state fresh_state
+  unfolding setters.adapted_bias setters.set_motion_bias_est_enabled setters.set_rest_bias_est_enabled setters.set_mag_dist_rejection_enabled setters.with_estimate setters.reset_state fresh_state
   held = record {
     built = new_held;
     gyr = λ f h v ts _. (h.0, h.1, h.2, gyr_rest_held w _ _ _ _ _ h.3);

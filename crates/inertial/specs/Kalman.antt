@@ -11,7 +11,7 @@ use Rattle.algebra.specs.declared.vector.Vector.{Vector}
 use Rattle.algebra.specs.declared.quaternion.Quaternion.{Quaternion}
 use Rattle.algebra.specs.declared.matrix.Matrix.{Matrix}
 use Rattle.algebra.specs.declared.matrix.NoInverse.{NoInverse}
-use Rattle.filters.specs.Banks.{filter_vec2, filter_vec9, finite_channels}
+use Rattle.filters.specs.Banks.{filter_vec, finite_channels}
 use Rattle.filters.specs.declared.coeffs.Coeffs.{Coeffs}
 use Rattle.limits.specs.declared.updated.Tried.{Tried}
 use Rattle.tilt.specs.Scalars.{square, radians}
@@ -82,8 +82,8 @@ module _ (w : Format) where
       let v = b.bias in
       let x = r.m00 ⊗ v.0 ⊕ r.m01 ⊗ v.1 ⊕ r.m02 ⊗ v.2 in
       let y = r.m10 ⊗ v.0 ⊕ r.m11 ⊗ v.1 ⊕ r.m12 ⊗ v.2 in
-      let f = filter_vec9 w (flatten r) tau ts k b.motion_bias_est_rlp_state in
-      let g = filter_vec2 w (x ∷ y ∷ []) tau ts k b.motion_bias_est_bias_lp_state in
+      let f = filter_vec w 9 (flatten r) tau ts k b.motion_bias_est_rlp_state in
+      let g = filter_vec w 2 (x ∷ y ∷ []) tau ts k b.motion_bias_est_bias_lp_state in
       record { r = unflatten f.y; bias_lp = g.y; rlp_state = f.channels; bias_lp_state = g.channels }
 
   unfoldable pub at_rest : Vector → Vector → Float → Measurement

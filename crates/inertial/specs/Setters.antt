@@ -9,7 +9,7 @@ use Rattle.algebra.specs.Matrices.{diagonal}
 use Rattle.algebra.specs.declared.vector.Vector.{Vector}
 use Rattle.algebra.specs.declared.matrix.Matrix.{Matrix}
 use Rattle.filters.specs.Channels.{fresh}
-use Rattle.filters.specs.Banks.{adapt2, adapt9, first_numbers, finite_channels}
+use Rattle.filters.specs.Banks.{adapted, first_numbers, finite_channels}
 use Rattle.filters.specs.Coefficients.{filter_coeffs, finite_coeffs}
 use Rattle.filters.specs.declared.coeffs.Coeffs.{Coeffs}
 use Rattle.limits.specs.Answers.{Told, told}
@@ -115,8 +115,8 @@ module _ (w : Format) where
       record {
         bias = b.bias;
         bias_p = b.bias_p;
-        motion_bias_est_rlp_state = adapt9 (first_numbers w 9 b.motion_bias_est_rlp_state) old new b.motion_bias_est_rlp_state;
-        motion_bias_est_bias_lp_state = adapt2 (first_numbers w 2 b.motion_bias_est_bias_lp_state) old new b.motion_bias_est_bias_lp_state;
+        motion_bias_est_rlp_state = adapted 9 (first_numbers w 9 b.motion_bias_est_rlp_state) old new b.motion_bias_est_rlp_state;
+        motion_bias_est_bias_lp_state = adapted 2 (first_numbers w 2 b.motion_bias_est_bias_lp_state) old new b.motion_bias_est_bias_lp_state;
       }
 
   unfoldable pub retuned : Inertial → Float → Told Inertial

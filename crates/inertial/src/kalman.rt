@@ -83,9 +83,9 @@ fn smoothed(b: Bias, r: Matrix, tau: f64, ts: f64, coeffs: Coeffs) -> Smooth
     let x = r.m00 * v.0 + r.m01 * v.1 + r.m02 * v.2;
     let y = r.m10 * v.0 + r.m11 * v.1 + r.m12 * v.2;
     let rlp = b.motion_bias_est_rlp_state;
-    let f = filters::bank::filter_vec9(r.flatten(), tau, ts, coeffs, rlp);
+    let f = filters::filter_vec(r.flatten(), tau, ts, coeffs, rlp);
     let lp = b.motion_bias_est_bias_lp_state;
-    let g = filters::bank::filter_vec2([x, y], tau, ts, coeffs, lp);
+    let g = filters::filter_vec([x, y], tau, ts, coeffs, lp);
     let flat = f.y;
     let r = Matrix::unflatten(flat);
     let rlp_state = f.channels;
@@ -251,6 +251,6 @@ fn finite_bias(b: Bias) -> bool
     let lp = b.motion_bias_est_bias_lp_state;
     b.bias.finite()
         & b.bias_p.finite()
-        & filters::bank::finite_channels9(rlp)
-        & filters::bank::finite_channels2(lp)
+        & filters::finite_channels(rlp)
+        & filters::finite_channels(lp)
 }

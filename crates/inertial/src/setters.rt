@@ -49,9 +49,9 @@ impl Inertial {
         let rlp = bias.motion_bias_est_rlp_state;
         let lp = bias.motion_bias_est_bias_lp_state;
         if filters::finite_coeffs(new)
-            & filters::bank::finite_channels3(acc)
-            & filters::bank::finite_channels9(rlp)
-            & filters::bank::finite_channels2(lp)
+            & filters::finite_channels(acc)
+            & filters::finite_channels(rlp)
+            & filters::finite_channels(lp)
         {
             let mut params = self.params;
             params.tau_acc = tau_acc;
@@ -185,8 +185,8 @@ fn adapted_bias(b: Bias, old: Coeffs, new: Coeffs) -> Bias
 {
     let rlp = b.motion_bias_est_rlp_state;
     let lp = b.motion_bias_est_bias_lp_state;
-    let next_rlp = filters::bank::adapt9(filters::bank::first_numbers9(rlp), old, new, rlp);
-    let next_lp = filters::bank::adapt2(filters::bank::first_numbers2(lp), old, new, lp);
+    let next_rlp = filters::adapted(filters::first_numbers(rlp), old, new, rlp);
+    let next_lp = filters::adapted(filters::first_numbers(lp), old, new, lp);
     let mut next = b;
     next.motion_bias_est_rlp_state = next_rlp;
     next.motion_bias_est_bias_lp_state = next_lp;

@@ -14,7 +14,6 @@ use Rattle.floats.specs.Intervals.{none, known, var, add', mul', bound, inside, 
 use Rattle.floats.proofs.FromZero.{zero_level, zero_from, sum_from_zero}
 use Rattle.floats.proofs.Kept.{plus_nought}
 use Rattle.algebra.specs.declared.vector.Vector.{Vector}
-use Rattle.filters.specs.Banks.{filter_vec2}
 use Rattle.filters.specs.Counts.{all_from_zero}
 use Rattle.filters.specs.declared.channel.Channel.{Channel}
 use Rattle.filters.specs.declared.coeffs.Coeffs.{Coeffs}
@@ -164,7 +163,7 @@ module _ (w : Format) (p : MagneticParams) (c : MagneticCoefficients) where
 -- ---- the filter of norm and dip, absent or present
 module _ (w : Format) (p : MagneticParams) (c : MagneticCoefficients) (f : Field) (x : NormDip) (tau ts k k_ref : Float) where
   smoothed_held : (s : Option Coeffs) → TimesHeld w p c f → TimesHeld w p c (smoothed w f x tau (record { mag_ts = ts; k_mag = k; k_mag_ref = k_ref; mag_norm_dip_lp = s }))
-  unfolding smoothed filter_vec2
+  unfolding smoothed
   smoothed_held None h = h
   smoothed_held (Some q) h = record { rejecting = h.rejecting; undisturbed = h.undisturbed; candidate = h.candidate; counts = channels_from_zero w 2 _ tau ts q f.mag_norm_dip_lp_state h.counts }
 

@@ -9,8 +9,7 @@ use Rattle.floats.specs.Definitions.{magnitude}
 use Rattle.numbers.specs.Arcs.{asin}
 use Rattle.algebra.specs.Vectors.{norm}
 use Rattle.algebra.specs.declared.vector.Vector.{Vector}
-use Rattle.filters.specs.Banks.{filter_vec2, finite_channels}
-use Rattle.filters.specs.declared.bank.Filtered2.{Filtered2}
+use Rattle.filters.specs.Banks.{filter_vec, finite_channels}
 use Rattle.filters.specs.declared.coeffs.Coeffs.{Coeffs}
 use Rattle.magnetic.specs.Told.{norm_dip, reference, candidate, with_reference, with_candidate, with_norm_dip}
 use Rattle.magnetic.specs.declared.types.Field.{Field}
@@ -40,7 +39,7 @@ module _ (w : Format) where
   abbrev smoothed_by : Field → NormDip → Float → Float → Option Coeffs → Field
   smoothed_by f x tau ts None = with_norm_dip f x f.mag_norm_dip_lp_state
   smoothed_by f x tau ts (Some k) =
-      let g : Filtered2 = filter_vec2 w (x.0 ∷ x.1 ∷ []) tau ts k f.mag_norm_dip_lp_state in
+      let g = filter_vec w 2 (x.0 ∷ x.1 ∷ []) tau ts k f.mag_norm_dip_lp_state in
       with_norm_dip f (norm_dip (get_or g.y 0 nan) (get_or g.y 1 nan)) g.channels
 
   unfoldable pub smoothed : Field → NormDip → Float → MagneticCoefficients → Field

@@ -27,7 +27,7 @@ fn smoothed(f: Field, raw: NormDip, tau: f64, c: MagneticCoefficients) -> Field
         },
         Some(k) => {
             let x = [raw.0, raw.1];
-            let g = filters::bank::filter_vec2(x, tau, c.mag_ts, k, f.mag_norm_dip_lp_state);
+            let g = filters::filter_vec(x, tau, c.mag_ts, k, f.mag_norm_dip_lp_state);
             Field {
                 mag_norm_dip: NormDip(g.y[0], g.y[1]),
                 mag_norm_dip_lp_state: g.channels,
@@ -206,5 +206,5 @@ pub fn finite_field(f: Field) -> bool
         & floats::finite(f.mag_candidate_t)
         & floats::finite(f.mag_norm_dip.0)
         & floats::finite(f.mag_norm_dip.1)
-        & filters::bank::finite_channels2(f.mag_norm_dip_lp_state)
+        & filters::finite_channels(f.mag_norm_dip_lp_state)
 }

@@ -47,8 +47,8 @@ fn acc_filtered(rest: Rest, tau: f64, ts: f64, coeffs: Coeffs, acc: Vector) -> R
     ensures { result ≡ acc_filtered binary64 rest tau ts coeffs acc }
 {
     let before = rest.rest_acc_lp_state;
-    let f = filters::bank::filter_vec3(acc, tau, ts, coeffs, before);
-    let y = f.y;
+    let f = filters::filter_vec(acc.into(), tau, ts, coeffs, before);
+    let y = Vector::from(f.y);
     let channels = f.channels;
     let mut deviations = rest.rest_last_squared_deviations;
     deviations.1 = squared_deviation(acc, y);
@@ -81,7 +81,7 @@ fn finite_acc_rest(rest: Rest) -> bool
     floats::finite(deviations.1)
         & floats::finite(rest.rest_t)
         & lp.finite()
-        & filters::bank::finite_channels3(channels)
+        & filters::finite_channels(channels)
 }
 
 // The inclination correction.
@@ -114,8 +114,8 @@ fn acc_lowpassed(i: Inclination, tau: f64, ts: f64, coeffs: Coeffs, acc: Vector)
     let gyr_quat = i.gyr_quat;
     let acc_earth = gyr_quat.rotate(acc);
     let before = i.acc_lp_state;
-    let f = filters::bank::filter_vec3(acc_earth, tau, ts, coeffs, before);
-    let y = f.y;
+    let f = filters::filter_vec(acc_earth.into(), tau, ts, coeffs, before);
+    let y = Vector::from(f.y);
     let channels = f.channels;
     let mut next = i;
     next.last_acc_lp = y;
@@ -145,6 +145,6 @@ fn finite_inclination(i: Inclination) -> bool
     let channels = i.acc_lp_state;
     acc_quat.finite()
         & lp.finite()
-        & filters::bank::finite_channels3(channels)
+        & filters::finite_channels(channels)
         & floats::finite(i.last_acc_corr_angular_rate)
 }

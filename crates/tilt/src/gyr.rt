@@ -114,8 +114,8 @@ fn gyr_filtered(rest: Rest, tau: f64, ts: f64, coeffs: Coeffs, gyr: Vector) -> R
     ensures { result ≡ gyr_filtered binary64 rest tau ts coeffs gyr }
 {
     let before = rest.rest_gyr_lp_state;
-    let f = filters::bank::filter_vec3(gyr, tau, ts, coeffs, before);
-    let y = f.y;
+    let f = filters::filter_vec(gyr.into(), tau, ts, coeffs, before);
+    let y = Vector::from(f.y);
     let channels = f.channels;
     let mut deviations = rest.rest_last_squared_deviations;
     deviations.0 = squared_deviation(gyr, y);
@@ -133,7 +133,7 @@ fn finite_gyr_rest(rest: Rest) -> bool
     let deviations = rest.rest_last_squared_deviations;
     let lp = rest.rest_last_gyr_lp;
     let channels = rest.rest_gyr_lp_state;
-    floats::finite(deviations.0) & lp.finite() & filters::bank::finite_channels3(channels)
+    floats::finite(deviations.0) & lp.finite() & filters::finite_channels(channels)
 }
 
 // The source's test that a gyro sample is not quiet.

@@ -12,7 +12,7 @@ pub fn adapted_inclination(i: Inclination, old: Coeffs, new: Coeffs) -> Inclinat
 {
     let last = i.last_acc_lp;
     let channels = i.acc_lp_state;
-    let adapted = filters::bank::adapt3(last, old, new, channels);
+    let adapted = filters::adapted(last.into(), old, new, channels);
     let mut next = i;
     next.acc_lp_state = adapted;
     next

@@ -13,7 +13,7 @@ use Rattle.algebra.specs.Matrices as matrices
 use Rattle.filters.specs.Values as filters
 use Rattle.filters.specs.Coefficients.{angle, coeffs, filter_coeffs, finite_coeffs}
 use Rattle.filters.specs.Channels.{average, filter_channel, filter_adapt_state_for_coeff_change, finite_channel}
-use Rattle.filters.specs.Banks.{outputs, channels, filter_vec2, filter_vec3, filter_vec9, adapted, adapt2, adapt3, adapt9, first_numbers, finite_channels}
+use Rattle.filters.specs.Banks.{outputs, channels, filter_vec3, adapted, adapt3, first_numbers, finite_channels}
 use Rattle.limits.specs.Answers.{told}
 use Rattle.limits.specs.Limits.{all_within, zero_sample}
 use Rattle.tilt.specs.Gyr as tilt
@@ -39,7 +39,7 @@ unfolding set_tau_acc setters.set_tau_acc fresh built house inertial.new inertia
 tau_below = refl
 
 tau_taken : (set_tau_acc binary64 (fresh binary64) (decimal binary64 1 100)).number ≡ 0
-unfolding set_tau_acc setters.set_tau_acc setters.retuned finite_coeffs adapted_inclination setters.adapted_bias adapted adapt2 adapt3 adapt9 first_numbers finite_channels finite_channel filter_adapt_state_for_coeff_change filter_coeffs angle coeffs tan ksin kcos clamp fresh built house inertial.new inertial.setup inertial.house inertial.fresh_state fresh_rest fresh_inclination add sub mul div neg lt eq le round of_bits
+unfolding set_tau_acc setters.set_tau_acc setters.retuned finite_coeffs adapted_inclination setters.adapted_bias adapted adapt3 first_numbers finite_channels finite_channel filter_adapt_state_for_coeff_change filter_coeffs angle coeffs tan ksin kcos clamp fresh built house inertial.new inertial.setup inertial.house inertial.fresh_state fresh_rest fresh_inclination add sub mul div neg lt eq le round of_bits
 tau_taken = refl
 
 biases : BiasValues
@@ -81,7 +81,7 @@ acc_calls :
     × ((update_acc binary64 (house_at (scaled (2 ^ 334))) level).number ≡ 0)
     × (update_acc binary64 (house_at (scaled (2 ^ 400))) level ≡ told 5 (house_at (scaled (2 ^ 400))))
     × (update_acc binary64 (house_at (filled (2 ^ 600))) level ≡ told 5 (house_at (filled (2 ^ 600))))
-unfolding update_acc asked.quat_6d acc.update_acc acc.acc_step acc.acc_settled acc_rest acc_filtered counted finite_acc_rest inclined acc_lowpassed acc_correction finite_inclination kalman.bias_step kalman.rotation kalman.smoothed kalman.measured kalman.in_motion kalman.raised kalman.widened kalman.innovation kalman.gain kalman.shifted kalman.shrunk kalman.estimated kalman.updated_bias kalman.finite_bias squared_deviation vectors.norm vectors.normalize vectors.finite vectors.clip vectors.clipped quaternions.times quaternions.normalize quaternions.norm quaternions.rotate quaternions.finite matrices.minus matrices.dot matrices.times matrices.diagonal matrices.transpose matrices.flatten matrices.unflatten matrices.finite matrices.adjugate matrices.determinant matrices.divided matrices.invert filter_vec2 filter_vec3 filter_vec9 outputs channels filter_channel average finite_channels finite_channel fresh built house inertial.new inertial.setup inertial.house inertial.fresh_state fresh_rest fresh_inclination inertial.bias_coefficients all_within zero_sample magnitude root arccosine near_one kasin clamp larger add sub mul div neg lt eq le of_int round of_bits
+unfolding update_acc asked.quat_6d acc.update_acc acc.acc_step acc.acc_settled acc_rest acc_filtered counted finite_acc_rest inclined acc_lowpassed acc_correction finite_inclination kalman.bias_step kalman.rotation kalman.smoothed kalman.measured kalman.in_motion kalman.raised kalman.widened kalman.innovation kalman.gain kalman.shifted kalman.shrunk kalman.estimated kalman.updated_bias kalman.finite_bias squared_deviation vectors.norm vectors.normalize vectors.finite vectors.clip vectors.clipped quaternions.times quaternions.normalize quaternions.norm quaternions.rotate quaternions.finite matrices.minus matrices.dot matrices.times matrices.diagonal matrices.transpose matrices.flatten matrices.unflatten matrices.finite matrices.adjugate matrices.determinant matrices.divided matrices.invert filter_vec3 outputs channels filter_channel average finite_channels finite_channel fresh built house inertial.new inertial.setup inertial.house inertial.fresh_state fresh_rest fresh_inclination inertial.bias_coefficients all_within zero_sample magnitude root arccosine near_one kasin clamp larger add sub mul div neg lt eq le of_int round of_bits
 acc_calls = ((refl, refl, refl), refl, refl, refl)
 
 pub worked : Worked
