@@ -4,17 +4,10 @@ use Rattle.determined.proofs.OneResult.{equal}
 
 pub filters : Filters
 filters = record {
-  adapt2 = λ κs a z z' e e'. equal;
-  adapt3 = λ κs a z z' e e'. equal;
-  adapt9 = λ κs a z z' e e'. equal;
-  filter_vec2 = λ κs a z z' e e'. equal;
-  filter_vec3 = λ κs a z z' e e'. equal;
-  filter_vec9 = λ κs a z z' e e'. equal;
-  finite_channels2 = λ κs a z z' e e'. equal;
-  finite_channels3 = λ κs a z z' e e'. equal;
-  finite_channels9 = λ κs a z z' e e'. equal;
-  first_numbers2 = λ κs a z z' e e'. equal;
-  first_numbers9 = λ κs a z z' e e'. equal;
+  adapted = λ n h κs a z z' e e'. equal;
+  filter_vec = λ n h κs a z z' e e'. equal;
+  finite_channels = λ n h κs a z z' e e'. equal;
+  first_numbers = λ n h κs a z z' e e'. equal;
   filter_adapt_state_for_coeff_change = λ κs a z z' e e'. equal;
   filter_channel = λ κs a z z' e e'. equal;
   filter_initial_state = λ κs a z z' e e'. equal;

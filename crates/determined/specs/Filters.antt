@@ -1,16 +1,10 @@
 -- Every public function of `filters`: filters.
+use Rattle.std.specs.Prelude.{ℕ}
 use Rattle.determined.specs.OneResult.{OneResult}
-use Rattle.filters.proofs.bank.adapt2.Reads as adapt2
-use Rattle.filters.proofs.bank.adapt3.Reads as adapt3
-use Rattle.filters.proofs.bank.adapt9.Reads as adapt9
-use Rattle.filters.proofs.bank.filter_vec2.Reads as filter_vec2
-use Rattle.filters.proofs.bank.filter_vec3.Reads as filter_vec3
-use Rattle.filters.proofs.bank.filter_vec9.Reads as filter_vec9
-use Rattle.filters.proofs.bank.finite_channels2.Reads as finite_channels2
-use Rattle.filters.proofs.bank.finite_channels3.Reads as finite_channels3
-use Rattle.filters.proofs.bank.finite_channels9.Reads as finite_channels9
-use Rattle.filters.proofs.bank.first_numbers2.Reads as first_numbers2
-use Rattle.filters.proofs.bank.first_numbers9.Reads as first_numbers9
+use Rattle.filters.proofs.bank.adapted.Reads as adapted
+use Rattle.filters.proofs.bank.filter_vec.Reads as filter_vec
+use Rattle.filters.proofs.bank.finite_channels.Reads as finite_channels
+use Rattle.filters.proofs.bank.first_numbers.Reads as first_numbers
 use Rattle.filters.proofs.channel.filter_adapt_state_for_coeff_change.Reads as filter_adapt_state_for_coeff_change
 use Rattle.filters.proofs.channel.filter_channel.Reads as filter_channel
 use Rattle.filters.proofs.channel.filter_initial_state.Reads as filter_initial_state
@@ -22,17 +16,10 @@ use Rattle.filters.proofs.coeffs.finite_coeffs.Reads as finite_coeffs
 use Rattle.filters.proofs.coeffs.gain_from_tau.Reads as gain_from_tau
 
 pub record Filters : Type 0 where
-  pub adapt2 : OneResult adapt2.Learnt
-  pub adapt3 : OneResult adapt3.Learnt
-  pub adapt9 : OneResult adapt9.Learnt
-  pub filter_vec2 : OneResult filter_vec2.Learnt
-  pub filter_vec3 : OneResult filter_vec3.Learnt
-  pub filter_vec9 : OneResult filter_vec9.Learnt
-  pub finite_channels2 : OneResult finite_channels2.Learnt
-  pub finite_channels3 : OneResult finite_channels3.Learnt
-  pub finite_channels9 : OneResult finite_channels9.Learnt
-  pub first_numbers2 : OneResult first_numbers2.Learnt
-  pub first_numbers9 : OneResult first_numbers9.Learnt
+  pub adapted : (n : ℕ) (h : _) → OneResult (adapted.Learnt n h)
+  pub filter_vec : (n : ℕ) (h : _) → OneResult (filter_vec.Learnt n h)
+  pub finite_channels : (n : ℕ) (h : _) → OneResult (finite_channels.Learnt n h)
+  pub first_numbers : (n : ℕ) (h : _) → OneResult (first_numbers.Learnt n h)
   pub filter_adapt_state_for_coeff_change : OneResult filter_adapt_state_for_coeff_change.Learnt
   pub filter_channel : OneResult filter_channel.Learnt
   pub filter_initial_state : OneResult filter_initial_state.Learnt

@@ -66,8 +66,8 @@ pub fn finite_channels<const N: usize>(c: [Channel; N]) -> bool
     ensures { result ≡ finite_channels N c.entry }
 {
     let mut all = true;
-    for i in 0..N {
-        all = all & finite_channel(c[i]);
+    for channel in c {
+        all = all & finite_channel(channel);
     }
     all
 }

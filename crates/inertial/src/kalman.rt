@@ -76,6 +76,7 @@ fn rotation(q: Quaternion) -> Matrix
     }
 }
 
+#[tactic(auto, unfolding(crate::specs::Kalman::smoothed))]
 fn smoothed(b: Bias, r: Matrix, tau: f64, ts: f64, coeffs: Coeffs) -> Smooth
     ensures { result ≡ smoothed binary64 b r tau ts coeffs }
 {
@@ -244,6 +245,7 @@ fn updated_bias(s: Smooth, estimated: Result<Estimate, NoInverse>) -> Result<Tri
     })
 }
 
+#[tactic(auto, unfolding(crate::specs::Kalman::finite_bias))]
 fn finite_bias(b: Bias) -> bool
     ensures { result ≡ finite_bias b }
 {

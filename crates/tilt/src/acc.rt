@@ -42,7 +42,7 @@ pub fn acc_rest(rest: Rest, p: RestParams, ts: f64, coeffs: Coeffs, acc: Vector)
     }
 }
 
-#[tactic(auto, unfolding(crate::specs::Acc::acc_filtered))]
+#[tactic(auto, unfolding(crate::specs::Acc::acc_filtered, filters::specs::Banks::filter_vec3))]
 fn acc_filtered(rest: Rest, tau: f64, ts: f64, coeffs: Coeffs, acc: Vector) -> Rest
     ensures { result ≡ acc_filtered binary64 rest tau ts coeffs acc }
 {
@@ -107,7 +107,7 @@ pub fn inclined(i: Inclination, tau: f64, ts: f64, coeffs: Coeffs, acc: Vector) 
 }
 
 // The sample in the frame of the gyro prediction, low-pass filtered.
-#[tactic(auto, unfolding(crate::specs::Acc::acc_lowpassed))]
+#[tactic(auto, unfolding(crate::specs::Acc::acc_lowpassed, filters::specs::Banks::filter_vec3))]
 fn acc_lowpassed(i: Inclination, tau: f64, ts: f64, coeffs: Coeffs, acc: Vector) -> Inclination
     ensures { result ≡ acc_lowpassed binary64 i tau ts coeffs acc }
 {

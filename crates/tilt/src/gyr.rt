@@ -109,7 +109,7 @@ pub fn gyr_rest(rest: Rest, p: RestParams, ts: f64, coeffs: Coeffs, gyr: Vector)
     }
 }
 
-#[tactic(auto, unfolding(crate::specs::Gyr::gyr_filtered))]
+#[tactic(auto, unfolding(crate::specs::Gyr::gyr_filtered, filters::specs::Banks::filter_vec3))]
 fn gyr_filtered(rest: Rest, tau: f64, ts: f64, coeffs: Coeffs, gyr: Vector) -> Rest
     ensures { result ≡ gyr_filtered binary64 rest tau ts coeffs gyr }
 {

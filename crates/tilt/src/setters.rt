@@ -6,7 +6,7 @@ use crate::types::Inclination;
 use filters::Coeffs;
 
 // The filter of the acceleration for new coefficients.
-#[tactic(auto, unfolding(crate::specs::Setters::adapted_inclination))]
+#[tactic(auto, unfolding(crate::specs::Setters::adapted_inclination, filters::specs::Banks::adapt3))]
 pub fn adapted_inclination(i: Inclination, old: Coeffs, new: Coeffs) -> Inclination
     ensures { result ≡ adapted_inclination i old new }
 {

@@ -3,12 +3,12 @@ use Rattle.filters.specs.Banks.{finite_channels}
 use Rattle.filters.proofs.Fill.{checking_none, checking_more, checking_done}
 use Rattle.filters.proofs.bank.finite_channels.Goals as goal
 
-pub loop-i-init : goal.loop-i-init
-loop-i-init g c = checking_none
+pub loop-channel-init : goal.loop-channel-init
+loop-channel-init g c = checking_none
 
-pub loop-i-preserved : goal.loop-i-preserved
-loop-i-preserved g c = checking_more c.loop-i.invariant c.loop-i-test.true c.finite_channel-all.ensures
+pub loop-channel-preserved : goal.loop-channel-preserved
+loop-channel-preserved g c = checking_more c.loop-channel.invariant c.loop-channel-test.true c.finite_channel-all.ensures
 
 pub returns : goal.returns
 unfolding finite_channels
-returns g c = checking_done c.loop-i.invariant c.loop-i-test.false
+returns g c = checking_done c.loop-channel.invariant c.loop-channel-test.false

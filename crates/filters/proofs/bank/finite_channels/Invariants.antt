@@ -4,5 +4,5 @@ use Rattle.filters.specs.Banks.{channel}
 use Rattle.filters.proofs.Fill.{Checking}
 use Rattle.filters.proofs.bank.finite_channels.Given as goal
 
-abbrev pub invariant-loop-i : goal.invariant-loop-i
-invariant-loop-i g l = Checking (λ j. finite_channel (channel l.c j)) g.row.N l.all l.i
+abbrev pub invariant-loop-channel : goal.invariant-loop-channel
+invariant-loop-channel g l = Checking (λ j. finite_channel (channel l.fn.c j)) g.row.N l.all l.channel-index

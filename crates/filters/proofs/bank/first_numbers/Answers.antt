@@ -1,5 +1,4 @@
 -- After i turns the first i numbers are the channels' first.
-use Rattle.std.proofs.Common.{rules}
 use Rattle.std.proofs.lemmas.List.{length-replicate}
 use Rattle.filters.specs.Banks.{first_numbers}
 use Rattle.filters.proofs.Fill.{filling_none, filling_more, filling_done}
