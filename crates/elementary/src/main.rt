@@ -27,9 +27,9 @@ fn put_both(stdout: Stdout, n: u64) -> io::Result<()> {
 
 // The float with the bits n and its two neighbours, with both signs.
 fn put_about(stdout: Stdout, n: u64) -> io::Result<()> {
-    put_both(stdout, std::num::wrapping_sub_u64(n, 1))?;
+    put_both(stdout, n.wrapping_sub(1))?;
     put_both(stdout, n)?;
-    put_both(stdout, std::num::wrapping_add_u64(n, 1))
+    put_both(stdout, n.wrapping_add(1))
 }
 
 // The ends of the domains and of the branches, multiples of pi / 4, and the largest half angle of a gyro step.

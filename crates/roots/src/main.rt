@@ -3,10 +3,9 @@
 // The file stdout was written by oracle/roots.rs, which takes the same floats to another root.
 #![tactic(auto)]
 
-ghost use Rattle.std.specs.Prelude.{◌≤◌, IfOk};
-
 use std::io;
-use std::io::{Read, Stdin, Stdout};
+use std::io::{Stdin, Stdout};
+use streams::Input;
 
 // From 1 to the next float.
 const EPSILON: f64 = 2.220446049250313e-16;
@@ -20,9 +19,9 @@ fn put(stdout: Stdout, x: u64) -> io::Result<()> {
 
 // A float and its two neighbours.
 fn put_about(stdout: Stdout, x: u64) -> io::Result<()> {
-    put(stdout, std::num::wrapping_sub_u64(x, 1))?;
+    put(stdout, x.wrapping_sub(1))?;
     put(stdout, x)?;
-    put(stdout, std::num::wrapping_add_u64(x, 1))
+    put(stdout, x.wrapping_add(1))
 }
 
 // The powers of two, and so of four, that are normal, and the infinity.
@@ -81,11 +80,11 @@ fn middle(t: u64) -> u64 {
     let mut left = t;
     for k in 0..52u64 {
         if left & 1 == 1 {
-            let less = std::num::wrapping_sub_u64(left, q << 1);
-            left = std::num::wrapping_sub_u64(less, (1 << k) | 1);
-            q = q | (1 << k);
+            let less = left.wrapping_sub(q << 1);
+            left = less.wrapping_sub((1 << k) | 1);
+            q |= 1 << k;
         }
-        left = left >> 1;
+        left >>= 1;
     }
     q
 }
@@ -107,7 +106,7 @@ fn put_close(stdout: Stdout, s: u64, t: u64) -> io::Result<()> {
     put_squares(stdout, (s >> 12) | (((t >> 54) + 512) << 52))?;
     let off = (s >> ((t >> 59) + 20)) << 1;
     put_hard(stdout, off)?;
-    put_hard(stdout, std::num::wrapping_sub_u64(0, off))?;
+    put_hard(stdout, off.wrapping_neg())?;
     put(stdout, (s >> 35) + 0x3fef_ffff_f000_0000)
 }
 
@@ -140,50 +139,19 @@ const OTHER: u64 = 1_000_000_000;
 // The count with one more digit; a line end adds nothing.
 fn with(count: u64, byte: u8) -> u64 {
     match byte {
-        10 => count,
-        48..=57 => {
-            if count < 100_000_000 {
-                count * 10 + (byte - 48) as u64
-            } else {
-                OTHER
-            }
-        }
+        b'\n' => count,
+        b'0'..=b'9' if count < 100_000_000 => count * 10 + u64::from(byte - b'0'),
         _ => OTHER,
     }
 }
 
-fn number(text: &[u8]) -> u64 {
-    let mut count = 0;
-    for i in 0..text.len() {
-        count = with(count, text[i]);
-    }
-    count
-}
-
-// Fills the buffer as far as the standard input goes, and tells how far.
-fn read_full(mut stdin: Stdin, text: &mut [u8; 4096]) -> io::Result<usize>
-    ensures { IfOk result (λ n. n ≤ 4096) }
-{
-    let mut at = 0usize;
-    for turn in 0..4096u32 {
-        let count = stdin.read(&mut text[at..])?;
-        if count == 0 {
-            return Ok(at);
-        }
-        at += count;
-    }
-    Ok(at)
-}
-
 // How many times to draw.
 fn read(stdin: Stdin) -> io::Result<u64> {
-    let mut text = [0u8; 4096];
-    let n = read_full(stdin, &mut text)?;
-    if n == 0 {
-        Ok(1000)
-    } else {
-        Ok(number(&text[..n]))
+    let mut count = None;
+    for byte in Input::from(stdin).take(4096) {
+        count = Some(with(count.unwrap_or(0), byte?));
     }
+    Ok(count.unwrap_or(1000))
 }
 
 fn main(rt: HostRuntime) -> io::Result<()> {

@@ -5,17 +5,6 @@ use crate::play::{play_acc, play_gyr, play_mag};
 use std::io;
 use std::io::{Read, Stdin, Stdout};
 
-// A name is its bytes, packed.
-const GYR: u64 = 0x67_7972;
-
-const ACC: u64 = 0x61_6363;
-
-const MAG: u64 = 0x6d_6167;
-
-const SPACE: u64 = 32;
-
-const NEWLINE: u64 = 10;
-
 const COUNT_LIMIT: u64 = 1_000_000_000_000;
 
 // Fills the buffer as far as the standard input goes, and tells how far.
@@ -33,65 +22,58 @@ pub fn read_full(mut stdin: Stdin, text: &mut [u8; 4096]) -> io::Result<usize>
     Ok(at)
 }
 
-// What was read of a line.
-#[derive(Clone, Copy)]
+// What was read of a line: the last eight bytes of its name, packed, and its count.
+#[derive(Clone, Copy, Default)]
 struct Line {
     name: u64,
     count: u64,
 }
 
-fn wide(byte: u8) -> u64 {
-    byte as u64
-}
-
-fn named(line: Line, byte: u64) -> Line {
-    Line {
-        name: (line.name << 8) | byte,
-        count: line.count,
-    }
-}
-
-// A count at the limit takes no further digit.
-fn counted(line: Line, digit: u64) -> Line
-    requires { digit < 10 }
-{
-    if line.count < COUNT_LIMIT {
+impl Line {
+    fn named(self, byte: u8) -> Line {
         Line {
-            name: line.name,
-            count: line.count * 10 + digit,
+            name: (self.name << 8) | u64::from(byte),
+            ..self
         }
-    } else {
-        line
     }
-}
 
-// Plays a line that is whole; the next starts with nothing read.
-fn played(stdout: Stdout, line: Line) -> io::Result<Line> {
-    let name = line.name;
-    match name {
-        GYR => play_gyr(stdout, line.count)?,
-        ACC => play_acc(stdout, line.count)?,
-        MAG => play_mag(stdout, line.count)?,
-        _ => {}
+    // A count at the limit takes no further digit.
+    fn counted(self, digit: u8) -> Line
+        requires { digit < 10 }
+    {
+        if self.count < COUNT_LIMIT {
+            Line {
+                count: self.count * 10 + u64::from(digit),
+                ..self
+            }
+        } else {
+            self
+        }
     }
-    Ok(Line { name: 0, count: 0 })
-}
 
-fn taken(stdout: Stdout, line: Line, byte: u64) -> io::Result<Line> {
-    match byte {
-        NEWLINE => played(stdout, line),
-        SPACE => Ok(line),
-        48..=57 => Ok(counted(line, byte - 48)),
-        _ => Ok(named(line, byte)),
+    fn play(self, stdout: Stdout) -> io::Result<()> {
+        match &self.name.to_be_bytes() {
+            b"\0\0\0\0\0gyr" => play_gyr(stdout, self.count),
+            b"\0\0\0\0\0acc" => play_acc(stdout, self.count),
+            b"\0\0\0\0\0mag" => play_mag(stdout, self.count),
+            _ => Ok(()),
+        }
     }
 }
 
 // The last line need not end in a newline.
 pub fn play_lines(stdout: Stdout, text: &[u8]) -> io::Result<()> {
-    let mut line = Line { name: 0, count: 0 };
-    for i in 0..text.len() {
-        line = taken(stdout, line, wide(text[i]))?;
+    let mut line = Line::default();
+    for byte in text {
+        match *byte {
+            b'\n' => {
+                line.play(stdout)?;
+                line = Line::default();
+            }
+            b' ' => {}
+            b'0'..=b'9' => line = line.counted(*byte - b'0'),
+            _ => line = line.named(*byte),
+        }
     }
-    played(stdout, line)?;
-    Ok(())
+    line.play(stdout)
 }

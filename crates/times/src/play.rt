@@ -4,7 +4,7 @@ use algebra::Vector;
 use limits::Answer;
 use std::io;
 use std::io::Stdout;
-use vqf::VQF;
+use vqf::{Updated, VQF};
 
 // The first component of the next sample: up in small steps from -1 to 1, and again.
 fn next(x: f64) -> f64 {
@@ -12,59 +12,40 @@ fn next(x: f64) -> f64 {
     if y > 1.0 { y - 2.0 } else { y }
 }
 
-// The count after one more answer.
-fn counted(count: u64, answer: Answer) -> u64 {
-    match answer {
-        Answer::Done => std::num::wrapping_add_u64(count, 1),
-        _ => count,
+// Makes a call again and again, each on what the one before it left, and tells how many were answered
+// 0, and what the last one left.
+fn play<F: Fn(VQF, f64) -> Updated>(count: u64, call: F) -> (u64, VQF)
+    requires { F.IsAlwaysCallable call }
+{
+    let mut f = VQF::fresh();
+    let mut x = 0.0;
+    let mut done = 0u64;
+    for _ in 0..count {
+        let u = call(f, x);
+        if u.answer == Answer::Done {
+            done = done.wrapping_add(1);
+        }
+        f = u.filter;
+        x = next(x);
     }
+    (done, f)
 }
 
 pub fn play_gyr(stdout: Stdout, count: u64) -> io::Result<()> {
-    let mut f = VQF::fresh();
-    let mut x = 0.0;
-    let mut done = 0u64;
-    for _ in 0..count {
-        let u = f.update_gyr(Vector(x, 0.1, -0.2));
-        let answer = u.answer;
-        done = counted(done, answer);
-        f = u.filter;
-        x = next(x);
-    }
+    let (done, f) = play(count, |f, x| f.update_gyr(Vector(x, 0.1, -0.2)));
     put_count(stdout, done)?;
-    let gyr_quat = f.inertial.state.inclination.gyr_quat;
-    put_quaternion(stdout, gyr_quat)
+    put_quaternion(stdout, f.inertial.state.inclination.gyr_quat)
 }
 
 pub fn play_acc(stdout: Stdout, count: u64) -> io::Result<()> {
-    let mut f = VQF::fresh();
-    let mut x = 0.0;
-    let mut done = 0u64;
-    for _ in 0..count {
-        let u = f.update_acc(Vector(x, 0.5, 9.81));
-        let answer = u.answer;
-        done = counted(done, answer);
-        f = u.filter;
-        x = next(x);
-    }
+    let (done, f) = play(count, |f, x| f.update_acc(Vector(x, 0.5, 9.81)));
     put_count(stdout, done)?;
-    let acc_quat = f.inertial.state.inclination.acc_quat;
-    put_quaternion(stdout, acc_quat)?;
-    let bias = f.inertial.state.bias.bias;
-    put_vector(stdout, bias)
+    put_quaternion(stdout, f.inertial.state.inclination.acc_quat)?;
+    put_vector(stdout, f.inertial.state.bias.bias)
 }
 
 pub fn play_mag(stdout: Stdout, count: u64) -> io::Result<()> {
-    let mut f = VQF::fresh();
-    let mut x = 0.0;
-    let mut done = 0u64;
-    for _ in 0..count {
-        let u = f.update_mag(Vector(x, 20.0, -40.0));
-        let answer = u.answer;
-        done = counted(done, answer);
-        f = u.filter;
-        x = next(x);
-    }
+    let (done, f) = play(count, |f, x| f.update_mag(Vector(x, 20.0, -40.0)));
     put_count(stdout, done)?;
     put_number(stdout, f.delta())?;
     let norm_dip = f.magnetic.state.field.mag_norm_dip;

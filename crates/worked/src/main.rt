@@ -7,9 +7,9 @@
 
 use algebra::Vector;
 use filters::{Channel, Phase};
-use inertial::types::BiasParams;
 use inertial::{InertialParams, InertialState};
 use magnetic::MagneticParams;
+use std::fmt::Display;
 use std::io;
 use std::io::Stdout;
 use vqf::{Params, Updated, VQF};
@@ -82,31 +82,19 @@ fn singular(stdout: Stdout) -> io::Result<()> {
 }
 
 fn without_sigmas() -> Params {
-    let house = BiasParams {
-        motion_bias_est_enabled: true,
-        bias_sigma_init: 0.0,
-        bias_forgetting_time: 100.0,
-        bias_sigma_motion: 0.0,
-        bias_vertical_forgetting_factor: 0.0001,
-        bias_sigma_rest: 0.03,
-    };
     let mut inertial = InertialParams::HOUSE;
-    inertial.bias = house;
+    inertial.bias.bias_sigma_init = 0.0;
+    inertial.bias.bias_sigma_motion = 0.0;
     let magnetic = MagneticParams::HOUSE;
     Params { inertial, magnetic }
 }
 
 fn put_unmoved(stdout: Stdout, line: u64, s: InertialState) -> io::Result<()> {
-    put_number(stdout, line, b" rest_t ", s.rest.rest_t)?;
-    let rest_channels = s.rest.rest_acc_lp_state;
-    put_count(
-        stdout,
-        line,
-        b" rest_acc_lp_state[0].count ",
-        rest_channels[0],
-    )?;
-    let channels = s.inclination.acc_lp_state;
-    put_count(stdout, line, b" acc_lp_state[0].count ", channels[0])
+    put_number(stdout, line, "rest_t", s.rest.rest_t)?;
+    let rest = s.rest.rest_acc_lp_state[0];
+    put_count(stdout, line, "rest_acc_lp_state[0].count", rest)?;
+    let level = s.inclination.acc_lp_state[0];
+    put_count(stdout, line, "acc_lp_state[0].count", level)
 }
 
 // tau_mag -1: the first sample still moves delta with gain 1; the second has gain 0.
@@ -124,11 +112,11 @@ fn no_gain() -> Params {
 
 fn moved(stdout: Stdout, line: u64, f: VQF) -> io::Result<()> {
     put_delta(stdout, line, f)?;
-    put_number(stdout, line, b" k_mag ", f.magnetic.coeffs.k_mag)?;
+    put_number(stdout, line, "k_mag", f.magnetic.coeffs.k_mag)?;
     put_number(
         stdout,
         line,
-        b" k_mag_init ",
+        "k_mag_init",
         f.magnetic.state.heading.k_mag_init,
     )?;
     unmoved(stdout, 36, f.update_mag(Vector(0.0, 1.0, 0.0)).filter)
@@ -137,7 +125,7 @@ fn moved(stdout: Stdout, line: u64, f: VQF) -> io::Result<()> {
 fn unmoved(stdout: Stdout, line: u64, f: VQF) -> io::Result<()> {
     put_delta(stdout, line, f)?;
     let rate = f.magnetic.state.heading.last_mag_corr_angular_rate;
-    put_number(stdout, line, b" last_mag_corr_angular_rate ", rate)
+    put_number(stdout, line, "last_mag_corr_angular_rate", rate)
 }
 
 fn slow_house() -> Updated {
@@ -161,53 +149,39 @@ fn level(stdout: Stdout, line: u64, f: VQF, z: f64) -> io::Result<VQF> {
 }
 
 fn answered(stdout: Stdout, line: u64, u: Updated) -> io::Result<VQF> {
-    let answer = u.answer;
-    put_field(stdout, line, b" answer ")?;
-    put(stdout, &[answer.digit(), b'\n'])?;
+    put(stdout, line, "answer", u.answer.number())?;
     Ok(u.filter)
 }
 
 fn put_delta(stdout: Stdout, line: u64, f: VQF) -> io::Result<()> {
-    put_number(stdout, line, b" delta ", f.delta())
+    put_number(stdout, line, "delta", f.delta())
 }
 
 fn put_acc_quat(stdout: Stdout, line: u64, f: VQF) -> io::Result<()> {
     let q = f.inertial.state.inclination.acc_quat;
-    put_number(stdout, line, b" acc_quat[0] ", q.0)?;
-    put_number(stdout, line, b" acc_quat[1] ", q.1)?;
-    put_number(stdout, line, b" acc_quat[2] ", q.2)?;
-    put_number(stdout, line, b" acc_quat[3] ", q.3)
+    put_number(stdout, line, "acc_quat[0]", q.0)?;
+    put_number(stdout, line, "acc_quat[1]", q.1)?;
+    put_number(stdout, line, "acc_quat[2]", q.2)?;
+    put_number(stdout, line, "acc_quat[3]", q.3)
 }
 
 // What an averaging channel counts; a running one counts nothing.
-fn put_count(stdout: Stdout, line: u64, field: &[u8], channel: Channel) -> io::Result<()> {
-    let phase = channel.phase;
-    match phase {
+fn put_count(stdout: Stdout, line: u64, field: &str, channel: Channel) -> io::Result<()> {
+    match channel.phase {
         Phase::Averaging(count, _) => put_number(stdout, line, field, count),
-        Phase::Running(_, _) => put(stdout, b"running\n"),
+        Phase::Running(_, _) => put(stdout, line, field, "running"),
     }
 }
 
 fn put_rest(stdout: Stdout, line: u64, is_resting: bool) -> io::Result<()> {
-    put_field(stdout, line, b" rest_detected ")?;
-    if is_resting {
-        put(stdout, b"1\n")
-    } else {
-        put(stdout, b"0\n")
-    }
+    put(stdout, line, "rest_detected", u8::from(is_resting))
 }
 
-fn put_number(stdout: Stdout, line: u64, field: &[u8], x: f64) -> io::Result<()> {
-    put_field(stdout, line, field)?;
+fn put_number(stdout: Stdout, line: u64, field: &str, x: f64) -> io::Result<()> {
     let bits = floats::to_bits(x);
-    println!(stdout; "{bits:016x}")
+    println!(stdout; "{line} {field} {bits:016x}")
 }
 
-fn put_field(stdout: Stdout, line: u64, field: &[u8]) -> io::Result<()> {
-    stdout.print(line)?;
-    put(stdout, field)
-}
-
-fn put(stdout: Stdout, text: &[u8]) -> io::Result<()> {
-    stdout.write_all(text)
+fn put<T: Display + Drop>(stdout: Stdout, line: u64, field: &str, value: T) -> io::Result<()> {
+    println!(stdout; "{line} {field} {value}")
 }

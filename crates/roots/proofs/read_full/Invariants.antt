@@ -1,6 +1,0 @@
--- What was read ends within the buffer.
-use Rattle.std.proofs.Common.{◌≤◌}
-use Rattle.roots.proofs.read_full.Given as goal
-
-abbrev pub invariant-loop-turn : goal.invariant-loop-turn
-invariant-loop-turn l = l.at ≤ 4096
