@@ -1,5 +1,5 @@
 -- A line is read on from where the reader stands.
-use Rattle.std.proofs.Common.{◌≡◌, ℕ, true, false, cond, List, [], ◌∷◌, Option, None, Some, Result, Ok, sym, ◌∙◌, ap, subst}
+use Rattle.std.proofs.Common.{◌≡◌, ℕ, true, cond, List, [], ◌∷◌, Option, None, Some, Result, Ok, sym, ◌∙◌, ap, subst}
 use Rattle.std.specs.Prelude.{MatchResult}
 use Rattle.std.specs.Io.KnownBytes.{Consumes, Keeps, IsAtEnd}
 use Rattle.script.specs.Readers.{reader_with}
@@ -15,12 +15,6 @@ GoesOn (Some xs) r (Some ys) = next_line START xs ≡ next_line r ys
 
 pub taken : {E : Type 0} (was is : Option (List ℕ)) (item : Result ℕ E) (b : ℕ) → item ≡ Ok b → MatchResult item (λ x. Consumes was is (x ∷ [])) (λ _. Keeps was is) → Consumes was is (b ∷ [])
 taken {E} was is item b e h = let P : Result ℕ E → Type 0 = λ i. MatchResult i (λ x. Consumes was is (x ∷ [])) (λ _. Keeps was is) in subst P e h
-
-pub goes-on : (old was is : Option (List ℕ)) (r : Reader) (b : ℕ) → GoesOn old r was → Consumes was is (b ∷ []) → (reader_with r b).is_ended ≡ false → GoesOn old (reader_with r b) is
-goes-on None was is r b h k e = tt
-goes-on (Some xs) None is r b h k e = absurd h
-goes-on (Some xs) (Some ys) None r b h k e = absurd k
-goes-on (Some xs) (Some ys) (Some zs) r b h k e = h ∙ ap (λ l. next_line r l) k ∙ ap (λ c. cond c ((reader_with r b).line, zs) (next_line (reader_with r b) zs)) e
 
 pub ends : (old was is : Option (List ℕ)) (r : Reader) (b : ℕ) → GoesOn old r was → Consumes was is (b ∷ []) → (reader_with r b).is_ended ≡ true → IsNextLine old (reader_with r b).line is
 ends None was is r b h k e = tt
