@@ -4,7 +4,7 @@ ghost use Rattle.std.specs.Float.{binary64};
 ghost use Rattle.tilt.specs.Acc.{acc_rest, acc_filtered, counted, finite_acc_rest, inclined, acc_lowpassed, acc_correction, finite_inclination};
 
 use crate::rest::{broken, squared_deviation};
-use crate::types::{Inclination, Rest, RestParams};
+use crate::types::{Deviations, Inclination, Rest, RestParams};
 use algebra::{Quaternion, Vector};
 use filters::Coeffs;
 use limits::Tried;
@@ -24,15 +24,14 @@ pub fn acc_rest(rest: Rest, p: RestParams, ts: f64, coeffs: Coeffs, acc: Vector)
 {
     if p.rest_bias_est_enabled {
         let f = acc_filtered(rest, p.rest_filter_tau, ts, coeffs, acc);
-        let deviations = f.rest_last_squared_deviations;
-        if deviations.1 >= p.rest_th_acc * p.rest_th_acc {
-            let b = broken(f);
-            let finite = finite_acc_rest(b);
-            Tried { finite, value: b }
+        let value = if f.rest_last_squared_deviations.1 >= p.rest_th_acc * p.rest_th_acc {
+            broken(f)
         } else {
-            let q = counted(f, p.rest_min_t, ts);
-            let finite = finite_acc_rest(q);
-            Tried { finite, value: q }
+            counted(f, p.rest_min_t, ts)
+        };
+        Tried {
+            finite: finite_acc_rest(value),
+            value,
         }
     } else {
         Tried {
@@ -46,17 +45,16 @@ pub fn acc_rest(rest: Rest, p: RestParams, ts: f64, coeffs: Coeffs, acc: Vector)
 fn acc_filtered(rest: Rest, tau: f64, ts: f64, coeffs: Coeffs, acc: Vector) -> Rest
     ensures { result ≡ acc_filtered binary64 rest tau ts coeffs acc }
 {
-    let before = rest.rest_acc_lp_state;
-    let f = filters::filter_vec(acc.into(), tau, ts, coeffs, before);
+    let f = filters::filter_vec(acc.into(), tau, ts, coeffs, rest.rest_acc_lp_state);
     let y = Vector::from(f.y);
     let channels = f.channels;
-    let mut deviations = rest.rest_last_squared_deviations;
-    deviations.1 = squared_deviation(acc, y);
-    let mut r = rest;
-    r.rest_last_squared_deviations = deviations;
-    r.rest_last_acc_lp = y;
-    r.rest_acc_lp_state = channels;
-    r
+    let deviation = squared_deviation(acc, y);
+    Rest {
+        rest_last_squared_deviations: Deviations(rest.rest_last_squared_deviations.0, deviation),
+        rest_last_acc_lp: y,
+        rest_acc_lp_state: channels,
+        ..rest
+    }
 }
 
 // A quiet sample's time is added.
@@ -65,23 +63,21 @@ fn counted(rest: Rest, min_t: f64, ts: f64) -> Rest
     ensures { result ≡ counted binary64 rest min_t ts }
 {
     let t = rest.rest_t + ts;
-    let mut r = rest;
-    r.rest_t = t;
-    r.rest_detected = (t >= min_t) | rest.rest_detected;
-    r
+    Rest {
+        rest_detected: (t >= min_t) | rest.rest_detected,
+        rest_t: t,
+        ..rest
+    }
 }
 
 #[tactic(auto, unfolding(crate::specs::Acc::finite_acc_rest))]
 fn finite_acc_rest(rest: Rest) -> bool
     ensures { result ≡ finite_acc_rest rest }
 {
-    let deviations = rest.rest_last_squared_deviations;
-    let lp = rest.rest_last_acc_lp;
-    let channels = rest.rest_acc_lp_state;
-    floats::finite(deviations.1)
+    floats::finite(rest.rest_last_squared_deviations.1)
         & floats::finite(rest.rest_t)
-        & lp.finite()
-        & filters::finite_channels(channels)
+        & rest.rest_last_acc_lp.finite()
+        & filters::finite_channels(rest.rest_acc_lp_state)
 }
 
 // The inclination correction.
@@ -90,17 +86,14 @@ pub fn inclined(i: Inclination, tau: f64, ts: f64, coeffs: Coeffs, acc: Vector) 
     ensures { result ≡ inclined binary64 i tau ts coeffs acc }
 {
     let lp = acc_lowpassed(i, tau, ts, coeffs, acc);
-    let last = lp.last_acc_lp;
-    let acc_quat = lp.acc_quat;
-    let acc_earth = acc_quat.rotate(last).normalize();
-    let next_quat = acc_correction(acc_earth).times(acc_quat).normalize();
-    let rate = numbers::acos(acc_earth.2) / ts;
-    let mut inclination = lp;
-    inclination.acc_quat = next_quat;
-    inclination.last_acc_corr_angular_rate = rate;
-    let finite = finite_inclination(inclination);
+    let acc_earth = lp.acc_quat.rotate(lp.last_acc_lp).normalize();
+    let inclination = Inclination {
+        acc_quat: acc_correction(acc_earth).times(lp.acc_quat).normalize(),
+        last_acc_corr_angular_rate: numbers::acos(acc_earth.2) / ts,
+        ..lp
+    };
     TriedInclination {
-        finite,
+        finite: finite_inclination(inclination),
         inclination,
         acc_earth,
     }
@@ -111,16 +104,15 @@ pub fn inclined(i: Inclination, tau: f64, ts: f64, coeffs: Coeffs, acc: Vector) 
 fn acc_lowpassed(i: Inclination, tau: f64, ts: f64, coeffs: Coeffs, acc: Vector) -> Inclination
     ensures { result ≡ acc_lowpassed binary64 i tau ts coeffs acc }
 {
-    let gyr_quat = i.gyr_quat;
-    let acc_earth = gyr_quat.rotate(acc);
-    let before = i.acc_lp_state;
-    let f = filters::filter_vec(acc_earth.into(), tau, ts, coeffs, before);
+    let acc_earth = i.gyr_quat.rotate(acc);
+    let f = filters::filter_vec(acc_earth.into(), tau, ts, coeffs, i.acc_lp_state);
     let y = Vector::from(f.y);
     let channels = f.channels;
-    let mut next = i;
-    next.last_acc_lp = y;
-    next.acc_lp_state = channels;
-    next
+    Inclination {
+        last_acc_lp: y,
+        acc_lp_state: channels,
+        ..i
+    }
 }
 
 // The turn that brings acc_earth up.
@@ -140,11 +132,8 @@ fn acc_correction(acc_earth: Vector) -> Quaternion
 fn finite_inclination(i: Inclination) -> bool
     ensures { result ≡ finite_inclination i }
 {
-    let acc_quat = i.acc_quat;
-    let lp = i.last_acc_lp;
-    let channels = i.acc_lp_state;
-    acc_quat.finite()
-        & lp.finite()
-        & filters::finite_channels(channels)
+    i.acc_quat.finite()
+        & i.last_acc_lp.finite()
+        & filters::finite_channels(i.acc_lp_state)
         & floats::finite(i.last_acc_corr_angular_rate)
 }

@@ -12,9 +12,7 @@ use algebra::Quaternion;
 pub fn quat_6d(i: Inclination) -> Quaternion
     ensures { result ≡ quat_6d binary64 i }
 {
-    let acc_quat = i.acc_quat;
-    let gyr_quat = i.gyr_quat;
-    acc_quat.times(gyr_quat)
+    i.acc_quat.times(i.gyr_quat)
 }
 
 // The last deviation of a gyro and of an accelerometer sample, each divided by its threshold.

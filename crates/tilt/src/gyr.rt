@@ -5,7 +5,7 @@ ghost use Rattle.tilt.specs.Gyr.{after_gyr, update_gyr, gyr_step, gyr_rest, gyr_
 
 use crate::angle::radians;
 use crate::rest::{broken, squared_deviation};
-use crate::types::{Rest, RestParams};
+use crate::types::{Deviations, Rest, RestParams};
 use algebra::vector::EPSILON;
 use algebra::{Quaternion, Vector};
 use filters::Coeffs;
@@ -69,12 +69,10 @@ fn gyr_step(
     let tried_rest = gyr_rest(rest, p, gyr_ts, coeffs, gyr);
     let tried_quat = predicted(quat, bias, gyr, ts);
     if tried_rest.finite & tried_quat.finite {
-        let next_rest = tried_rest.value;
-        let next_quat = tried_quat.value;
         AfterGyr {
             answer: Answer::Done,
-            rest: next_rest,
-            quat: next_quat,
+            rest: tried_rest.value,
+            quat: tried_quat.value,
         }
     } else {
         AfterGyr {
@@ -93,11 +91,11 @@ pub fn gyr_rest(rest: Rest, p: RestParams, ts: f64, coeffs: Coeffs, gyr: Vector)
     if p.rest_bias_est_enabled | p.mag_dist_rejection_enabled {
         let f = gyr_filtered(rest, p.rest_filter_tau, ts, coeffs, gyr);
         let finite = finite_gyr_rest(f);
-        let deviations = f.rest_last_squared_deviations;
-        let lp = f.rest_last_gyr_lp;
-        if gyr_stirred(p, deviations.0, lp) {
-            let b = broken(f);
-            Tried { finite, value: b }
+        if gyr_stirred(p, f.rest_last_squared_deviations.0, f.rest_last_gyr_lp) {
+            Tried {
+                finite,
+                value: broken(f),
+            }
         } else {
             Tried { finite, value: f }
         }
@@ -113,27 +111,25 @@ pub fn gyr_rest(rest: Rest, p: RestParams, ts: f64, coeffs: Coeffs, gyr: Vector)
 fn gyr_filtered(rest: Rest, tau: f64, ts: f64, coeffs: Coeffs, gyr: Vector) -> Rest
     ensures { result ≡ gyr_filtered binary64 rest tau ts coeffs gyr }
 {
-    let before = rest.rest_gyr_lp_state;
-    let f = filters::filter_vec(gyr.into(), tau, ts, coeffs, before);
+    let f = filters::filter_vec(gyr.into(), tau, ts, coeffs, rest.rest_gyr_lp_state);
     let y = Vector::from(f.y);
     let channels = f.channels;
-    let mut deviations = rest.rest_last_squared_deviations;
-    deviations.0 = squared_deviation(gyr, y);
-    let mut r = rest;
-    r.rest_last_squared_deviations = deviations;
-    r.rest_last_gyr_lp = y;
-    r.rest_gyr_lp_state = channels;
-    r
+    let deviation = squared_deviation(gyr, y);
+    Rest {
+        rest_last_squared_deviations: Deviations(deviation, rest.rest_last_squared_deviations.1),
+        rest_last_gyr_lp: y,
+        rest_gyr_lp_state: channels,
+        ..rest
+    }
 }
 
 #[tactic(auto, unfolding(crate::specs::Gyr::finite_gyr_rest))]
 fn finite_gyr_rest(rest: Rest) -> bool
     ensures { result ≡ finite_gyr_rest rest }
 {
-    let deviations = rest.rest_last_squared_deviations;
-    let lp = rest.rest_last_gyr_lp;
-    let channels = rest.rest_gyr_lp_state;
-    floats::finite(deviations.0) & lp.finite() & filters::finite_channels(channels)
+    floats::finite(rest.rest_last_squared_deviations.0)
+        & rest.rest_last_gyr_lp.finite()
+        & filters::finite_channels(rest.rest_gyr_lp_state)
 }
 
 // The source's test that a gyro sample is not quiet.
@@ -158,9 +154,8 @@ pub fn predicted(quat: Quaternion, bias: Vector, gyr: Vector, ts: f64) -> Tried<
     let n = unbiased.norm();
     if n > EPSILON {
         let next = turned(quat, unbiased, n, ts);
-        let finite = next.finite();
         Tried {
-            finite,
+            finite: next.finite(),
             value: next,
         }
     } else {

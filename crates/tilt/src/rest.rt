@@ -22,8 +22,9 @@ pub fn squared_deviation(x: Vector, lp: Vector) -> f64
 pub fn broken(rest: Rest) -> Rest
     ensures { result ≡ broken binary64 rest }
 {
-    let mut r = rest;
-    r.rest_t = 0.0;
-    r.rest_detected = false;
-    r
+    Rest {
+        rest_detected: false,
+        rest_t: 0.0,
+        ..rest
+    }
 }

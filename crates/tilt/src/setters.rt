@@ -10,10 +10,8 @@ use filters::Coeffs;
 pub fn adapted_inclination(i: Inclination, old: Coeffs, new: Coeffs) -> Inclination
     ensures { result ≡ adapted_inclination i old new }
 {
-    let last = i.last_acc_lp;
-    let channels = i.acc_lp_state;
-    let adapted = filters::adapted(last.into(), old, new, channels);
-    let mut next = i;
-    next.acc_lp_state = adapted;
-    next
+    Inclination {
+        acc_lp_state: filters::adapted(i.last_acc_lp.into(), old, new, i.acc_lp_state),
+        ..i
+    }
 }

@@ -26,15 +26,14 @@ impl Rest {
     pub fn fresh() -> Rest
         ensures { result ≡ fresh_rest binary64 }
     {
-        let channels = [Channel::FRESH; 3];
         Rest {
             rest_detected: false,
             rest_last_squared_deviations: Deviations(0.0, 0.0),
             rest_t: 0.0,
-            rest_last_gyr_lp: Vector(0.0, 0.0, 0.0),
-            rest_gyr_lp_state: channels,
-            rest_last_acc_lp: Vector(0.0, 0.0, 0.0),
-            rest_acc_lp_state: channels,
+            rest_last_gyr_lp: Vector::ZERO,
+            rest_gyr_lp_state: [Channel::FRESH; 3],
+            rest_last_acc_lp: Vector::ZERO,
+            rest_acc_lp_state: [Channel::FRESH; 3],
         }
     }
 }
@@ -45,12 +44,11 @@ impl Inclination {
     pub fn fresh() -> Inclination
         ensures { result ≡ fresh_inclination binary64 }
     {
-        let channels = [Channel::FRESH; 3];
         Inclination {
             gyr_quat: Quaternion::IDENTITY,
             acc_quat: Quaternion::IDENTITY,
-            last_acc_lp: Vector(0.0, 0.0, 0.0),
-            acc_lp_state: channels,
+            last_acc_lp: Vector::ZERO,
+            acc_lp_state: [Channel::FRESH; 3],
             last_acc_corr_angular_rate: 0.0,
         }
     }
