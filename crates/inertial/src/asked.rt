@@ -41,9 +41,8 @@ impl Inertial {
         let sum3 = row_sum(m.m20, m.m21, m.m22);
         let most = floats::larger(floats::larger(sum1, sum2), sum3);
         let p = floats::smaller(most, self.coeffs.bias.bias_p0);
-        let bias = self.state.bias.bias;
         BiasEstimate {
-            bias,
+            bias: self.state.bias.bias,
             sigma: numbers::sqrt(p) * (PI / 100.0 / 180.0),
         }
     }

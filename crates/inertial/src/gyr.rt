@@ -7,6 +7,7 @@ ghost use Rattle.inertial.specs.Gyr.{update_gyr_with_ts, update_gyr};
 use crate::types::Inertial;
 use algebra::Vector;
 use limits::Updated;
+use tilt::Inclination;
 
 impl Inertial {
     // A gyro sample in rad/s.
@@ -31,11 +32,13 @@ impl Inertial {
             gyr,
             ts,
         );
-        let quat = u.quat;
-        let mut inclination = self.state.inclination;
-        inclination.gyr_quat = quat;
-        let filter = self.with_groups(inclination, self.state.bias, u.rest);
-        let answer = u.answer;
-        Updated { answer, filter }
+        let inclination = Inclination {
+            gyr_quat: u.quat,
+            ..self.state.inclination
+        };
+        Updated {
+            answer: u.answer,
+            filter: self.with_groups(inclination, self.state.bias, u.rest),
+        }
     }
 }

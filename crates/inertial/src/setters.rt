@@ -4,14 +4,16 @@ ghost use Rattle.std.specs.Float.{binary64};
 ghost use Rattle.inertial.specs.Told.{told_of};
 ghost use Rattle.inertial.specs.Setters.{adapted_bias, retuned, set_tau_acc, set_motion_bias_est_enabled, set_rest_bias_est_enabled, set_mag_dist_rejection_enabled, set_rest_detection_thresholds, variance, bias_taken, sigma_or_none_taken, with_estimate, set_bias_estimate, reset_state};
 
-use crate::types::{Bias, Inertial, InertialState};
+use crate::types::{
+    Bias, BiasParams, Inertial, InertialCoefficients, InertialParams, InertialState,
+};
 use algebra::{Matrix, Vector};
 use filters::{Channel, Coeffs};
 use floats::PI;
 use limits::{Answer, Updated, sample, setting};
-use tilt::Rest;
 use tilt::angle::radians;
 use tilt::setters::adapted_inclination;
+use tilt::{Rest, RestParams};
 
 impl Inertial {
     // How slowly the tilt follows the accelerometer, in seconds.
@@ -45,28 +47,26 @@ impl Inertial {
         let new = filters::filter_coeffs(tau_acc, self.coeffs.acc_ts);
         let inclination = adapted_inclination(self.state.inclination, old, new);
         let bias = adapted_bias(self.state.bias, old, new);
-        let acc = inclination.acc_lp_state;
-        let rlp = bias.motion_bias_est_rlp_state;
-        let lp = bias.motion_bias_est_bias_lp_state;
         if filters::finite_coeffs(new)
-            & filters::finite_channels(acc)
-            & filters::finite_channels(rlp)
-            & filters::finite_channels(lp)
+            & filters::finite_channels(inclination.acc_lp_state)
+            & filters::finite_channels(bias.motion_bias_est_rlp_state)
+            & filters::finite_channels(bias.motion_bias_est_bias_lp_state)
         {
-            let mut params = self.params;
-            params.tau_acc = tau_acc;
-            let mut coeffs = self.coeffs;
-            coeffs.acc_lp = new;
-            let rest = self.state.rest;
             Updated {
                 answer: Answer::Done,
                 filter: Inertial {
-                    params,
-                    coeffs,
+                    params: InertialParams {
+                        tau_acc,
+                        ..self.params
+                    },
+                    coeffs: InertialCoefficients {
+                        acc_lp: new,
+                        ..self.coeffs
+                    },
                     state: InertialState {
                         inclination,
                         bias,
-                        rest,
+                        rest: self.state.rest,
                     },
                 },
             }
@@ -86,18 +86,24 @@ impl Inertial {
         if self.params.bias.motion_bias_est_enabled == enabled {
             self
         } else {
-            let channels9 = [Channel::FRESH; 9];
-            let channels2 = [Channel::FRESH; 2];
-            let mut bias_params = self.params.bias;
-            bias_params.motion_bias_est_enabled = enabled;
-            let mut params = self.params;
-            params.bias = bias_params;
-            let mut bias = self.state.bias;
-            bias.motion_bias_est_rlp_state = channels9;
-            bias.motion_bias_est_bias_lp_state = channels2;
-            let mut next = self.with_groups(self.state.inclination, bias, self.state.rest);
-            next.params = params;
-            next
+            Inertial {
+                params: InertialParams {
+                    bias: BiasParams {
+                        motion_bias_est_enabled: enabled,
+                        ..self.params.bias
+                    },
+                    ..self.params
+                },
+                state: InertialState {
+                    bias: Bias {
+                        motion_bias_est_rlp_state: [Channel::FRESH; 9],
+                        motion_bias_est_bias_lp_state: [Channel::FRESH; 2],
+                        ..self.state.bias
+                    },
+                    ..self.state
+                },
+                ..self
+            }
         }
     }
 
@@ -109,8 +115,10 @@ impl Inertial {
         if self.params.rest.rest_bias_est_enabled == enabled {
             self
         } else {
-            let mut rest_params = self.params.rest;
-            rest_params.rest_bias_est_enabled = enabled;
+            let rest_params = RestParams {
+                rest_bias_est_enabled: enabled,
+                ..self.params.rest
+            };
             self.with_rest_params(rest_params)
                 .with_groups(self.state.inclination, self.state.bias, Rest::fresh())
         }
@@ -121,9 +129,10 @@ impl Inertial {
     pub fn set_mag_dist_rejection_enabled(self, enabled: bool) -> Inertial
         ensures { result ≡ set_mag_dist_rejection_enabled self enabled }
     {
-        let mut rest_params = self.params.rest;
-        rest_params.mag_dist_rejection_enabled = enabled;
-        self.with_rest_params(rest_params)
+        self.with_rest_params(RestParams {
+            mag_dist_rejection_enabled: enabled,
+            ..self.params.rest
+        })
     }
 
     // The deviations from which a sample is not quiet: in °/s and in m/s².
@@ -132,9 +141,11 @@ impl Inertial {
         ensures { told_of result ≡ set_rest_detection_thresholds binary64 self th_gyr th_acc }
     {
         if setting::threshold_taken(th_gyr) & setting::threshold_taken(th_acc) {
-            let mut rest_params = self.params.rest;
-            rest_params.rest_th_gyr = th_gyr;
-            rest_params.rest_th_acc = th_acc;
+            let rest_params = RestParams {
+                rest_th_gyr: th_gyr,
+                rest_th_acc: th_acc,
+                ..self.params.rest
+            };
             Updated {
                 answer: Answer::Done,
                 filter: self.with_rest_params(rest_params),
@@ -171,10 +182,10 @@ impl Inertial {
     pub fn reset_state(self) -> Inertial
         ensures { result ≡ reset_state binary64 self }
     {
-        let state = InertialState::fresh(self.coeffs.bias.bias_p0);
-        let mut next = self;
-        next.state = state;
-        next
+        Inertial {
+            state: InertialState::fresh(self.coeffs.bias.bias_p0),
+            ..self
+        }
     }
 }
 
@@ -185,20 +196,28 @@ fn adapted_bias(b: Bias, old: Coeffs, new: Coeffs) -> Bias
 {
     let rlp = b.motion_bias_est_rlp_state;
     let lp = b.motion_bias_est_bias_lp_state;
-    let next_rlp = filters::adapted(filters::first_numbers(rlp), old, new, rlp);
-    let next_lp = filters::adapted(filters::first_numbers(lp), old, new, lp);
-    let mut next = b;
-    next.motion_bias_est_rlp_state = next_rlp;
-    next.motion_bias_est_bias_lp_state = next_lp;
-    next
+    Bias {
+        motion_bias_est_rlp_state: filters::adapted(
+            filters::first_numbers(rlp),
+            old,
+            new,
+            rlp,
+        ),
+        motion_bias_est_bias_lp_state: filters::adapted(
+            filters::first_numbers(lp),
+            old,
+            new,
+            lp,
+        ),
+        ..b
+    }
 }
 
 // Each component within the filter's own clip, worked out as the gyro step works it out.
 fn bias_taken(clip: f64, bias: Vector) -> bool
     ensures { result ≡ bias_taken binary64 clip bias }
 {
-    let limit = radians(clip);
-    sample::all_within(limit, bias)
+    sample::all_within(radians(clip), bias)
 }
 
 #[tactic(auto, unfolding(crate::specs::Setters::sigma_or_none_taken))]
@@ -215,16 +234,11 @@ fn sigma_or_none_taken(sigma: Option<f64>) -> bool
 fn with_estimate(b: Bias, bias: Vector, sigma: Option<f64>) -> Bias
     ensures { result ≡ with_estimate binary64 b bias sigma }
 {
-    let mut next = b;
-    next.bias = bias;
-    match sigma {
-        None => next,
-        Some(s) => {
-            let p = Matrix::diagonal(variance(s));
-            next.bias_p = p;
-            next
-        }
-    }
+    let bias_p = match sigma {
+        None => b.bias_p,
+        Some(s) => Matrix::diagonal(variance(s)),
+    };
+    Bias { bias, bias_p, ..b }
 }
 
 #[tactic(auto, unfolding(crate::specs::Setters::variance))]

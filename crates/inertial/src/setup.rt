@@ -74,11 +74,10 @@ impl Inertial {
         ensures { result ≡ new binary64 params gyr_ts acc_ts }
     {
         let coeffs = setup(params, gyr_ts, acc_ts);
-        let state = InertialState::fresh(coeffs.bias.bias_p0);
         Inertial {
             params,
             coeffs,
-            state,
+            state: InertialState::fresh(coeffs.bias.bias_p0),
         }
     }
 }
@@ -87,17 +86,13 @@ impl Inertial {
 fn setup(p: InertialParams, gyr_ts: f64, acc_ts: f64) -> InertialCoefficients
     ensures { result ≡ setup binary64 p gyr_ts acc_ts }
 {
-    let acc_lp = filters::filter_coeffs(p.tau_acc, acc_ts);
-    let bias = bias_coefficients(p.bias, acc_ts);
-    let rest_gyr_lp = filters::filter_coeffs(p.rest.rest_filter_tau, gyr_ts);
-    let rest_acc_lp = filters::filter_coeffs(p.rest.rest_filter_tau, acc_ts);
     InertialCoefficients {
         gyr_ts,
         acc_ts,
-        acc_lp,
-        rest_gyr_lp,
-        rest_acc_lp,
-        bias,
+        acc_lp: filters::filter_coeffs(p.tau_acc, acc_ts),
+        rest_gyr_lp: filters::filter_coeffs(p.rest.rest_filter_tau, gyr_ts),
+        rest_acc_lp: filters::filter_coeffs(p.rest.rest_filter_tau, acc_ts),
+        bias: bias_coefficients(p.bias, acc_ts),
     }
 }
 
@@ -130,21 +125,15 @@ impl InertialState {
     pub fn fresh(bias_p0: f64) -> InertialState
         ensures { result ≡ fresh_state binary64 bias_p0 }
     {
-        let channels2 = [Channel::FRESH; 2];
-        let channels9 = [Channel::FRESH; 9];
-        let inclination = Inclination::fresh();
-        let bias_p = Matrix::diagonal(bias_p0);
-        let bias = Bias {
-            bias: Vector(0.0, 0.0, 0.0),
-            bias_p,
-            motion_bias_est_rlp_state: channels9,
-            motion_bias_est_bias_lp_state: channels2,
-        };
-        let rest = Rest::fresh();
         InertialState {
-            inclination,
-            bias,
-            rest,
+            inclination: Inclination::fresh(),
+            bias: Bias {
+                bias: Vector::ZERO,
+                bias_p: Matrix::diagonal(bias_p0),
+                motion_bias_est_rlp_state: [Channel::FRESH; 9],
+                motion_bias_est_bias_lp_state: [Channel::FRESH; 2],
+            },
+            rest: Rest::fresh(),
         }
     }
 }

@@ -69,23 +69,25 @@ impl Inertial {
     pub(crate) fn with_groups(self, inclination: Inclination, bias: Bias, rest: Rest) -> Inertial
         ensures { result ≡ with_state self (state_of inclination bias rest) }
     {
-        let state = InertialState {
-            inclination,
-            bias,
-            rest,
-        };
-        let mut next = self;
-        next.state = state;
-        next
+        Inertial {
+            state: InertialState {
+                inclination,
+                bias,
+                rest,
+            },
+            ..self
+        }
     }
 
     pub(crate) fn with_rest_params(self, rest: RestParams) -> Inertial
         ensures { result ≡ with_params self (with_rest_params self.params rest) }
     {
-        let mut params = self.params;
-        params.rest = rest;
-        let mut next = self;
-        next.params = params;
-        next
+        Inertial {
+            params: InertialParams {
+                rest,
+                ..self.params
+            },
+            ..self
+        }
     }
 }

@@ -90,14 +90,10 @@ pub fn gyr_rest(rest: Rest, p: RestParams, ts: f64, coeffs: Coeffs, gyr: Vector)
 {
     if p.rest_bias_est_enabled | p.mag_dist_rejection_enabled {
         let f = gyr_filtered(rest, p.rest_filter_tau, ts, coeffs, gyr);
-        let finite = finite_gyr_rest(f);
-        if gyr_stirred(p, f.rest_last_squared_deviations.0, f.rest_last_gyr_lp) {
-            Tried {
-                finite,
-                value: broken(f),
-            }
-        } else {
-            Tried { finite, value: f }
+        let stirred = gyr_stirred(p, f.rest_last_squared_deviations.0, f.rest_last_gyr_lp);
+        Tried {
+            finite: finite_gyr_rest(f),
+            value: if stirred { broken(f) } else { f },
         }
     } else {
         Tried {
