@@ -19,15 +19,11 @@ pub struct Timed {
     pub ts: f64,
 }
 
-fn filter_of(u: Updated) -> VQF
-    ensures { result ≡ u.filter }
+// Leaves the filter of a call behind the reference, and hands back the answer.
+fn keep(f: &mut VQF, u: Updated) -> Answer
+    ensures { told (number result) f.new ≡ told_of u }
 {
-    u.filter
-}
-
-fn answer_of(u: Updated) -> Answer
-    ensures { result ≡ u.answer }
-{
+    *f = u.filter;
     u.answer
 }
 
@@ -35,41 +31,30 @@ fn answer_of(u: Updated) -> Answer
 pub fn feed_gyr(f: &mut VQF, gyr: Vector) -> Answer
     ensures { told (number result) f.new ≡ update_gyr binary64 f.old gyr }
 {
-    let u = VQF::update_gyr(*f, gyr);
-    *f = filter_of(u);
-    answer_of(u)
-}
-
-fn update_timed(f: VQF, s: Timed) -> Updated
-    ensures { told_of result ≡ update_gyr_with_ts binary64 f s.gyr s.ts }
-{
-    let gyr = s.gyr;
-    f.update_gyr_with_ts(gyr, s.ts)
+    let u = f.update_gyr(gyr);
+    keep(f, u)
 }
 
 // One gyroscope sample with an interval of its own.
 pub fn feed_gyr_with_ts(f: &mut VQF, s: Timed) -> Answer
     ensures { told (number result) f.new ≡ update_gyr_with_ts binary64 f.old s.gyr s.ts }
 {
-    let u = update_timed(*f, s);
-    *f = filter_of(u);
-    answer_of(u)
+    let u = f.update_gyr_with_ts(s.gyr, s.ts);
+    keep(f, u)
 }
 
 // One accelerometer sample.
 pub fn feed_acc(f: &mut VQF, acc: Vector) -> Answer
     ensures { told (number result) f.new ≡ update_acc binary64 f.old acc }
 {
-    let u = VQF::update_acc(*f, acc);
-    *f = filter_of(u);
-    answer_of(u)
+    let u = f.update_acc(acc);
+    keep(f, u)
 }
 
 // One magnetometer sample.
 pub fn feed_mag(f: &mut VQF, mag: Vector) -> Answer
     ensures { told (number result) f.new ≡ update_mag binary64 f.old mag }
 {
-    let u = VQF::update_mag(*f, mag);
-    *f = filter_of(u);
-    answer_of(u)
+    let u = f.update_mag(mag);
+    keep(f, u)
 }
