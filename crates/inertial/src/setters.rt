@@ -197,18 +197,8 @@ fn adapted_bias(b: Bias, old: Coeffs, new: Coeffs) -> Bias
     let rlp = b.motion_bias_est_rlp_state;
     let lp = b.motion_bias_est_bias_lp_state;
     Bias {
-        motion_bias_est_rlp_state: filters::adapted(
-            filters::first_numbers(rlp),
-            old,
-            new,
-            rlp,
-        ),
-        motion_bias_est_bias_lp_state: filters::adapted(
-            filters::first_numbers(lp),
-            old,
-            new,
-            lp,
-        ),
+        motion_bias_est_rlp_state: filters::adapted(filters::first_numbers(rlp), old, new, rlp),
+        motion_bias_est_bias_lp_state: filters::adapted(filters::first_numbers(lp), old, new, lp),
         ..b
     }
 }
