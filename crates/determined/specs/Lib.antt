@@ -5,6 +5,7 @@ pub mod Algebra
 pub mod Filters
 pub mod Limits
 pub mod Words
+pub mod Draws
 pub mod Tilt
 pub mod Inertial
 pub mod Magnetic

@@ -2,6 +2,7 @@
 // line each. The file stdout was written by oracle/elementary.rs, from the same recipes in Rust.
 #![tactic(auto)]
 
+use draws::next;
 use std::io;
 use std::io::Stdout;
 
@@ -113,12 +114,6 @@ fn sized(stdout: Stdout, s: u64, t: u64) -> io::Result<()> {
         stdout,
         numbers::atan2(floats::from_bits(s), floats::from_bits(s ^ (t >> 12))),
     )
-}
-
-fn next(s: u64) -> u64 {
-    let a = s ^ (s << 13);
-    let b = a ^ (a >> 7);
-    b ^ (b << 17)
 }
 
 fn drawn(stdout: Stdout, count: u64) -> io::Result<()> {

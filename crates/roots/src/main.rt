@@ -3,6 +3,7 @@
 // The file stdout was written by oracle/roots.rs, which takes the same floats to another root.
 #![tactic(auto)]
 
+use draws::next;
 use std::io;
 use std::io::{Stdin, Stdout};
 use streams::Input;
@@ -37,12 +38,6 @@ fn subnormals(stdout: Stdout) -> io::Result<()> {
         put_about(stdout, 1 << place)?;
     }
     Ok(())
-}
-
-fn next(s: u64) -> u64 {
-    let a = s ^ (s << 13);
-    let b = a ^ (a >> 7);
-    b ^ (b << 17)
 }
 
 // Any bits; a sign that is clear; a small exponent; a short significand; next to a power of two.
