@@ -21,6 +21,6 @@ pub fn round_trip(f: VQF) -> VQF
     ensures { result ≡ f }
 {
     let mut image = [0.0; SIZE];
-    pack::put_all(&mut image, f);
-    unpack::read(&image)
+    let _ = pack::pack(&mut image, f);
+    unpack::unpack(&image)
 }
