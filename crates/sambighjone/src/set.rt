@@ -56,10 +56,7 @@ pub fn sambighjone_set_rest_detection_thresholds(image: &mut [f64], th_gyr: f64,
 pub fn sambighjone_set_bias_estimate(image: &mut [f64], x: f64, y: f64, z: f64) -> u32
     ensures { told result image.new ≡ fed (λ f. set_bias_estimate binary64 f (vector x y z) None) image.old }
 {
-    fed(
-        image,
-        |f| f.set_bias_estimate(Vector(x, y, z), None),
-    )
+    fed(image, |f| f.set_bias_estimate(Vector(x, y, z), None))
 }
 
 // The gyro bias and its standard deviation, both in rad/s.
@@ -72,10 +69,7 @@ pub fn sambighjone_set_bias_estimate_with_sigma(
 ) -> u32
     ensures { told result image.new ≡ fed (λ f. set_bias_estimate binary64 f (vector x y z) (Some sigma)) image.old }
 {
-    fed(
-        image,
-        |f| f.set_bias_estimate(Vector(x, y, z), Some(sigma)),
-    )
+    fed(image, |f| f.set_bias_estimate(Vector(x, y, z), Some(sigma)))
 }
 
 // The reference: its norm in the magnetometer's unit, its dip in radians.

@@ -32,13 +32,7 @@ fn play(stdin: Stdin, stdout: Stdout, stderr: Stderr) -> io::Result<()> {
 }
 
 // Writes the row of a line, and hands back the next filter.
-fn answered(
-    stdout: Stdout,
-    f: VQF,
-    number: u64,
-    name: Name,
-    request: Request,
-) -> io::Result<VQF> {
+fn answered(stdout: Stdout, f: VQF, number: u64, name: Name, request: Request) -> io::Result<VQF> {
     match request {
         Request::Value(x) => {
             print_value(stdout, number, name, x)?;
