@@ -34,6 +34,7 @@ pub struct Estimate {
 }
 
 // The bias group after an accelerometer sample, from the inclination and the rest after it, or why the matrix to invert has no inverse.
+#[tactic(auto, unfolding(crate::specs::Kalman::bias_step))]
 pub fn bias_step(
     b: Bias,
     params: InertialParams,
@@ -60,6 +61,7 @@ pub fn bias_step(
 }
 
 // The rotation matrix of a quaternion.
+#[tactic(auto, unfolding(crate::specs::Kalman::rotation))]
 fn rotation(q: Quaternion) -> Matrix
     ensures { result ≡ rotation binary64 q }
 {
@@ -100,6 +102,7 @@ fn smoothed(b: Bias, r: Matrix, tau: f64, ts: f64, coeffs: Coeffs) -> Smooth
     }
 }
 
+#[tactic(auto, unfolding(crate::specs::Kalman::measured))]
 fn measured(
     s: Smooth,
     params: InertialParams,
@@ -120,6 +123,7 @@ fn measured(
     }
 }
 
+#[tactic(auto, unfolding(crate::specs::Kalman::at_rest))]
 fn at_rest(gyr_lp: Vector, bias: Vector, w: f64) -> Measurement
     ensures { result ≡ at_rest binary64 gyr_lp bias w }
 {
@@ -129,6 +133,7 @@ fn at_rest(gyr_lp: Vector, bias: Vector, w: f64) -> Measurement
     Measurement { e, w, r }
 }
 
+#[tactic(auto, unfolding(crate::specs::Kalman::in_motion))]
 fn in_motion(
     r: Matrix,
     bias_lp: [f64; 2],
@@ -147,6 +152,7 @@ fn in_motion(
     Measurement { e, w, r }
 }
 
+#[tactic(auto, unfolding(crate::specs::Kalman::unmeasured))]
 fn unmeasured(r: Matrix) -> Measurement
     ensures { result ≡ unmeasured binary64 r }
 {
@@ -155,6 +161,7 @@ fn unmeasured(r: Matrix) -> Measurement
     Measurement { e, w, r }
 }
 
+#[tactic(auto, unfolding(crate::specs::Kalman::widened))]
 fn widened(p: Matrix, c: BiasCoefficients) -> Matrix
     ensures { result ≡ widened binary64 p c }
 {
@@ -166,6 +173,7 @@ fn widened(p: Matrix, c: BiasCoefficients) -> Matrix
 }
 
 // The covariance grows by v on the diagonal where it is below p0.
+#[tactic(auto, unfolding(crate::specs::Kalman::raised))]
 fn raised(x: f64, c: BiasCoefficients) -> f64
     ensures { result ≡ raised binary64 x c }
 {
@@ -189,6 +197,7 @@ fn estimated(bias: Vector, p: Matrix, m: Measurement, clip: f64) -> Result<Estim
 }
 
 // W + R P R^T
+#[tactic(auto, unfolding(crate::specs::Kalman::innovation))]
 fn innovation(p: Matrix, r: Matrix, w: Vector) -> Matrix
     ensures { result ≡ innovation binary64 p r w }
 {
@@ -201,12 +210,14 @@ fn innovation(p: Matrix, r: Matrix, w: Vector) -> Matrix
 }
 
 // P R^T inv(W + R P R^T)
+#[tactic(auto, unfolding(crate::specs::Kalman::gain))]
 fn gain(p: Matrix, r: Matrix, inverse: Matrix) -> Matrix
     ensures { result ≡ gain binary64 p r inverse }
 {
     p.times(r.transpose().times(inverse))
 }
 
+#[tactic(auto, unfolding(crate::specs::Kalman::shifted))]
 fn shifted(bias: Vector, k: Matrix, e: Vector) -> Vector
     ensures { result ≡ shifted binary64 bias k e }
 {
@@ -218,6 +229,7 @@ fn shifted(bias: Vector, k: Matrix, e: Vector) -> Vector
 }
 
 // P - K R P
+#[tactic(auto, unfolding(crate::specs::Kalman::shrunk))]
 fn shrunk(p: Matrix, k: Matrix, r: Matrix) -> Matrix
     ensures { result ≡ shrunk binary64 p k r }
 {
