@@ -2,7 +2,6 @@
 use Rattle.floats.specs.Prelude.{◌≡◌, refl, sym, subst, not, ℕ, ◌+◌, ◌-◌, ◌*◌, ◌/◌, ◌%◌, ◌^◌, ◌≤◌, ◌<◌, le_trans, arith, T, lit≤, bit_and, binary64, to_bits, of_bits, nan_bits}
 use Rattle.std.specs.Float.Ieee.Bits.{to_bits-lt}
 use Rattle.numbers.specs.Root.{root_of, Closest}
-use Rattle.floats.specs.NoNan.{self_equal}
 use Rattle.numbers.proofs.Normal.{shifted, c_lt, answer, bit_lt}
 use Rattle.numbers.proofs.roots.normal_pattern.Goals as goal
 
@@ -18,9 +17,6 @@ found m e n q lo hi E1 E2 N p Q c =
 
 pub overflow_shl-c : goal.overflow_shl-c
 overflow_shl-c c = bit_lt c.args.e
-
-pub float_to_bits-n : goal.float_to_bits-n
-float_to_bits-n c = self_equal _ c.if-r.true
 
 pub is_closest-requires : goal.is_closest-requires
 is_closest-requires c = let m = c.args.m in
