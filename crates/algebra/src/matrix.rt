@@ -28,6 +28,7 @@ pub enum NoInverse {
 }
 
 // A sum in a product starts at 0.0 and runs over k.
+#[tactic(auto, unfolding(crate::specs::Matrices::dot))]
 fn dot(row: Vector, column: Vector) -> f64
     ensures { result ≡ dot binary64 row column }
 {
@@ -36,6 +37,7 @@ fn dot(row: Vector, column: Vector) -> f64
 
 impl Matrix {
     // The sum, place by place.
+    #[tactic(auto, unfolding(crate::specs::Matrices::plus))]
     pub fn plus(self, rhs: Matrix) -> Matrix
         ensures { result ≡ plus binary64 self rhs }
     {
@@ -53,6 +55,7 @@ impl Matrix {
     }
 
     // The difference, place by place.
+    #[tactic(auto, unfolding(crate::specs::Matrices::minus))]
     pub fn minus(self, rhs: Matrix) -> Matrix
         ensures { result ≡ minus binary64 self rhs }
     {
@@ -70,6 +73,7 @@ impl Matrix {
     }
 
     // The product; each sum starts at 0.
+    #[tactic(auto, unfolding(crate::specs::Matrices::times))]
     pub fn times(self, rhs: Matrix) -> Matrix
         ensures { result ≡ times binary64 self rhs }
     {
@@ -93,6 +97,7 @@ impl Matrix {
     }
 
     // Rows and columns exchanged.
+    #[tactic(auto, unfolding(crate::specs::Matrices::transpose))]
     pub fn transpose(self) -> Matrix
         ensures { result ≡ transpose self }
     {
@@ -110,6 +115,7 @@ impl Matrix {
     }
 
     // The nine cofactors, where the inverse has them.
+    #[tactic(auto, unfolding(crate::specs::Matrices::adjugate))]
     fn adjugate(self) -> Matrix
         ensures { result ≡ adjugate self }
     {
@@ -136,12 +142,14 @@ impl Matrix {
     }
 
     // Along the first row.
+    #[tactic(auto, unfolding(crate::specs::Matrices::determinant))]
     fn determinant(self, cofactors: Matrix) -> f64
         ensures { result ≡ determinant self cofactors }
     {
         self.m00 * cofactors.m00 + self.m01 * cofactors.m10 + self.m02 * cofactors.m20
     }
 
+    #[tactic(auto, unfolding(crate::specs::Matrices::divided))]
     fn divided(self, det: f64) -> Matrix
         ensures { result ≡ divided binary64 self det }
     {
@@ -174,6 +182,7 @@ impl Matrix {
     }
 
     // Row after row.
+    #[tactic(auto, unfolding(crate::specs::Matrices::flatten))]
     pub fn flatten(self) -> [f64; 9]
         ensures { result ≡ flatten self }
     {
@@ -184,6 +193,7 @@ impl Matrix {
     }
 
     // The matrix with these nine numbers, row by row.
+    #[tactic(auto, unfolding(crate::specs::Matrices::unflatten))]
     pub fn unflatten(m: [f64; 9]) -> Matrix
         ensures { result ≡ unflatten m }
     {
@@ -201,6 +211,7 @@ impl Matrix {
     }
 
     // p on the diagonal and 0 elsewhere.
+    #[tactic(auto, unfolding(crate::specs::Matrices::diagonal))]
     pub fn diagonal(p: f64) -> Matrix
         ensures { result ≡ diagonal binary64 p }
     {
@@ -218,6 +229,7 @@ impl Matrix {
     }
 
     // Whether all nine numbers are finite.
+    #[tactic(auto, unfolding(crate::specs::Matrices::finite))]
     pub fn finite(self) -> bool
         ensures { result ≡ finite self }
     {

@@ -11,6 +11,7 @@ impl Quaternion {
     pub const IDENTITY: Quaternion = Quaternion(1.0, 0.0, 0.0, 0.0);
 
     // The turn rhs followed by self.
+    #[tactic(auto, unfolding(crate::specs::Quaternions::times))]
     pub fn times(self, rhs: Quaternion) -> Quaternion
         ensures { result ≡ times binary64 self rhs }
     {
@@ -22,6 +23,7 @@ impl Quaternion {
     }
 
     // The length.
+    #[tactic(auto, unfolding(crate::specs::Quaternions::norm))]
     pub fn norm(self) -> f64
         ensures { result ≡ norm binary64 self }
     {
@@ -29,6 +31,7 @@ impl Quaternion {
     }
 
     // Of length 1; as it is where it is shorter than EPSILON.
+    #[tactic(auto, unfolding(crate::specs::Quaternions::normalize))]
     pub fn normalize(self) -> Quaternion
         ensures { result ≡ normalize binary64 self }
     {
@@ -41,6 +44,7 @@ impl Quaternion {
     }
 
     // v after the turn.
+    #[tactic(auto, unfolding(crate::specs::Quaternions::rotate))]
     pub fn rotate(self, v: Vector) -> Vector
         ensures { result ≡ rotate binary64 self v }
     {
@@ -57,6 +61,7 @@ impl Quaternion {
     }
 
     // The orientation after a turn by delta radians about the vertical.
+    #[tactic(auto, unfolding(crate::specs::Quaternions::apply_delta))]
     pub fn apply_delta(self, delta: f64) -> Quaternion
         ensures { result ≡ apply_delta binary64 self delta }
     {
@@ -70,6 +75,7 @@ impl Quaternion {
     }
 
     // Whether all four numbers are finite.
+    #[tactic(auto, unfolding(crate::specs::Quaternions::finite))]
     pub fn finite(self) -> bool
         ensures { result ≡ finite self }
     {

@@ -8,6 +8,7 @@ pub const EPSILON: f64 = 2.220446049250313e-16;
 #[derive(Clone, Copy)]
 pub struct Vector(pub f64, pub f64, pub f64);
 
+#[tactic(auto, unfolding(crate::specs::Vectors::clipped))]
 fn clipped(x: f64, min: f64, max: f64) -> f64
     ensures { result ≡ clipped x min max }
 {
@@ -24,6 +25,7 @@ impl Vector {
     pub const ZERO: Vector = Vector(0.0, 0.0, 0.0);
 
     // The length.
+    #[tactic(auto, unfolding(crate::specs::Vectors::norm))]
     pub fn norm(self) -> f64
         ensures { result ≡ norm binary64 self }
     {
@@ -31,6 +33,7 @@ impl Vector {
     }
 
     // Of length 1; as it is where it is shorter than EPSILON.
+    #[tactic(auto, unfolding(crate::specs::Vectors::normalize))]
     pub fn normalize(self) -> Vector
         ensures { result ≡ normalize binary64 self }
     {
@@ -43,6 +46,7 @@ impl Vector {
     }
 
     // Each component held to the range from min to max.
+    #[tactic(auto, unfolding(crate::specs::Vectors::clip))]
     pub fn clip(self, min: f64, max: f64) -> Vector
         ensures { result ≡ clip self min max }
     {
@@ -54,6 +58,7 @@ impl Vector {
     }
 
     // Whether all three numbers are finite.
+    #[tactic(auto, unfolding(crate::specs::Vectors::finite))]
     pub fn finite(self) -> bool
         ensures { result ≡ finite self }
     {

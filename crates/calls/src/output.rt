@@ -49,8 +49,7 @@ impl Output {
     // The bits of each number. A NaN has one text.
     pub fn numbers(&mut self, numbers: &[f64]) -> io::Result<()> {
         for x in numbers {
-            let x = if x.is_nan() { f64::NAN } else { *x };
-            let bits = floats::to_bits(x);
+            let bits = floats::to_bits(*x);
             write!(self, " {bits:016x}")?;
         }
         Ok(())

@@ -199,7 +199,7 @@ fn put_deviations(out: &mut Output, d: Deviations) -> io::Result<()> {
 }
 
 fn put_vector(out: &mut Output, v: Vector) -> io::Result<()> {
-    out.numbers(&[v.0, v.1, v.2])
+    out.numbers(&<[f64; 3]>::from(v))
 }
 
 fn put_quaternion(out: &mut Output, q: Quaternion) -> io::Result<()> {
@@ -207,7 +207,5 @@ fn put_quaternion(out: &mut Output, q: Quaternion) -> io::Result<()> {
 }
 
 fn put_matrix(out: &mut Output, m: Matrix) -> io::Result<()> {
-    out.numbers(&[
-        m.m00, m.m01, m.m02, m.m10, m.m11, m.m12, m.m20, m.m21, m.m22,
-    ])
+    out.numbers(&m.flatten())
 }

@@ -5,9 +5,9 @@ use Rattle.tilt.proofs.acc.inclined.Reads as inclined
 use Rattle.tilt.proofs.angle.radians.Reads as radians
 use Rattle.tilt.proofs.asked.quat_6d.Reads as quat_6d
 use Rattle.tilt.proofs.asked.relative_rest_deviations.Reads as relative_rest_deviations
+use Rattle.tilt.proofs.gyr.BeforeGyr.update.Reads as BeforeGyr_update
 use Rattle.tilt.proofs.gyr.gyr_rest.Reads as gyr_rest
 use Rattle.tilt.proofs.gyr.predicted.Reads as predicted
-use Rattle.tilt.proofs.gyr.update_gyr.Reads as update_gyr
 use Rattle.tilt.proofs.rest.broken.Reads as broken
 use Rattle.tilt.proofs.rest.squared_deviation.Reads as squared_deviation
 use Rattle.tilt.proofs.setters.adapted_inclination.Reads as adapted_inclination
@@ -21,9 +21,9 @@ pub record Tilt : Type 0 where
   pub radians : OneResult radians.Learnt
   pub quat_6d : OneResult quat_6d.Learnt
   pub relative_rest_deviations : OneResult relative_rest_deviations.Learnt
+  pub BeforeGyr_update : OneResult BeforeGyr_update.Learnt
   pub gyr_rest : OneResult gyr_rest.Learnt
   pub predicted : OneResult predicted.Learnt
-  pub update_gyr : OneResult update_gyr.Learnt
   pub broken : OneResult broken.Learnt
   pub squared_deviation : OneResult squared_deviation.Learnt
   pub adapted_inclination : OneResult adapted_inclination.Learnt

@@ -6,6 +6,33 @@ use draws::next;
 use std::io;
 use std::io::Stdout;
 
+// The ends of the domains and of the branches, multiples of pi / 4, and the largest half angle of a gyro step.
+const EDGES: [u64; 19] = [
+    0x0000_0000_0000_0000,
+    0x0010_0000_0000_0000,
+    0x3fe0_0000_0000_0000,
+    0x3fe8_0000_0000_0000,
+    0x3fe9_1eb8_51eb_851f,
+    0x3fe9_21fb_5444_2d18,
+    0x3ff0_0000_0000_0000,
+    0x3ff9_21fb_5444_2d18,
+    0x4002_d97c_7f33_21d2,
+    0x4009_21fb_5444_2d18,
+    0x4060_0000_0000_0000,
+    0x4065_d218_013e_214b,
+    0x406f_cf02_16a6_4912,
+    0x406f_e824_11fa_8d3f,
+    0x4070_0000_0000_0000,
+    0x4086_2000_0000_0000,
+    0x40c3_8800_0000_0000,
+    0x7fef_ffff_ffff_ffff,
+    0x7ff0_0000_0000_0000,
+];
+
+const HEIGHTS: [f64; 5] = [0.0, 1.0, 5e-324, f64::MAX, f64::INFINITY];
+
+const WIDTHS: [f64; 6] = [0.0, 1.0, 5e-324, f64::MAX, f64::INFINITY, f64::NAN];
+
 fn put(stdout: Stdout, x: f64) -> io::Result<()> {
     let bits = floats::to_bits(x);
     println!(stdout; "{bits:016x}")
@@ -33,37 +60,11 @@ fn put_about(stdout: Stdout, n: u64) -> io::Result<()> {
     put_both(stdout, n.wrapping_add(1))
 }
 
-// The ends of the domains and of the branches, multiples of pi / 4, and the largest half angle of a gyro step.
 fn edges(stdout: Stdout) -> io::Result<()> {
-    put_about(stdout, 0x0000_0000_0000_0000)?;
-    put_about(stdout, 0x0010_0000_0000_0000)?;
-    put_about(stdout, 0x3fe0_0000_0000_0000)?;
-    put_about(stdout, 0x3fe8_0000_0000_0000)?;
-    put_about(stdout, 0x3fe9_1eb8_51eb_851f)?;
-    put_about(stdout, 0x3fe9_21fb_5444_2d18)?;
-    put_about(stdout, 0x3ff0_0000_0000_0000)?;
-    put_about(stdout, 0x3ff9_21fb_5444_2d18)?;
-    put_about(stdout, 0x4002_d97c_7f33_21d2)?;
-    put_about(stdout, 0x4009_21fb_5444_2d18)?;
-    put_about(stdout, 0x4060_0000_0000_0000)?;
-    put_about(stdout, 0x4065_d218_013e_214b)?;
-    put_about(stdout, 0x406f_cf02_16a6_4912)?;
-    put_about(stdout, 0x406f_e824_11fa_8d3f)?;
-    put_about(stdout, 0x4070_0000_0000_0000)?;
-    put_about(stdout, 0x4086_2000_0000_0000)?;
-    put_about(stdout, 0x40c3_8800_0000_0000)?;
-    put_about(stdout, 0x7fef_ffff_ffff_ffff)?;
-    put_about(stdout, 0x7ff0_0000_0000_0000)
-}
-
-// The angles of the points with height y, or -y, and widths of every kind.
-fn put_points(stdout: Stdout, y: f64) -> io::Result<()> {
-    put_point(stdout, y, 0.0)?;
-    put_point(stdout, y, 1.0)?;
-    put_point(stdout, y, 5e-324)?;
-    put_point(stdout, y, 1.7976931348623157e308)?;
-    put_point(stdout, y, floats::from_bits(0x7ff0_0000_0000_0000))?;
-    put_point(stdout, y, floats::from_bits(0x7ff8_0000_0000_0000))
+    for n in EDGES {
+        put_about(stdout, n)?;
+    }
+    Ok(())
 }
 
 fn put_point(stdout: Stdout, y: f64, x: f64) -> io::Result<()> {
@@ -73,12 +74,14 @@ fn put_point(stdout: Stdout, y: f64, x: f64) -> io::Result<()> {
     put(stdout, numbers::atan2(-y, -x))
 }
 
+// The angles of the points with heights and widths of every kind.
 fn points(stdout: Stdout) -> io::Result<()> {
-    put_points(stdout, 0.0)?;
-    put_points(stdout, 1.0)?;
-    put_points(stdout, 5e-324)?;
-    put_points(stdout, 1.7976931348623157e308)?;
-    put_points(stdout, floats::from_bits(0x7ff0_0000_0000_0000))
+    for y in HEIGHTS {
+        for x in WIDTHS {
+            put_point(stdout, y, x)?;
+        }
+    }
+    Ok(())
 }
 
 // From 0 to 1.
@@ -118,7 +121,7 @@ fn sized(stdout: Stdout, s: u64, t: u64) -> io::Result<()> {
 
 fn drawn(stdout: Stdout, count: u64) -> io::Result<()> {
     let mut s = 0x9e37_79b9_7f4a_7c15;
-    for n in 0..count {
+    for _ in 0..count {
         let t = next(s);
         s = next(t);
         even(stdout, t, s)?;

@@ -42,9 +42,9 @@ fn at_the_other(f: VQF) -> VQF {
 fn main(rt: HostRuntime) -> io::Result<()> {
     let stdout = rt.stdout();
     let trolley = at_the_trolley();
-    output::tilt(stdout, b"at the trolley: ", points_down(trolley))?;
+    output::tilt(stdout, "at the trolley", points_down(trolley))?;
     let one = at_one_shelf();
-    output::tilt(stdout, b"at the shelf: ", points_down(one))?;
+    output::tilt(stdout, "at the shelf", points_down(one))?;
     let two = at_the_other(one);
     output::turn(stdout, turned_about(one.quat_9d(), two.quat_9d()))
 }

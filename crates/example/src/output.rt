@@ -1,23 +1,20 @@
 use std::io;
 use std::io::Stdout;
 
-fn put(stdout: Stdout, text: &[u8]) -> io::Result<()> {
-    stdout.write_all(text)
-}
-
-pub(crate) fn tilt(stdout: Stdout, place: &[u8], down: bool) -> io::Result<()> {
-    put(stdout, place)?;
-    if down {
-        put(stdout, b"pointed down, a return\n")
+pub(crate) fn tilt(stdout: Stdout, place: &str, down: bool) -> io::Result<()> {
+    let tilt = if down {
+        "pointed down, a return"
     } else {
-        put(stdout, b"held level, a shelf check\n")
-    }
+        "held level, a shelf check"
+    };
+    println!(stdout; "{place}: {tilt}")
 }
 
 pub(crate) fn turn(stdout: Stdout, about: bool) -> io::Result<()> {
-    if about {
-        put(stdout, b"between two shelves: turned about\n")
+    let turn = if about {
+        "turned about"
     } else {
-        put(stdout, b"between two shelves: the same way\n")
-    }
+        "the same way"
+    };
+    println!(stdout; "between two shelves: {turn}")
 }

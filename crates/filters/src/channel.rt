@@ -31,6 +31,7 @@ impl Channel {
 }
 
 // The memories at which a steady x0 is answered by x0.
+#[tactic(auto, unfolding(crate::specs::Channels::filter_initial_state))]
 pub fn filter_initial_state(x0: f64, coeffs: Coeffs) -> Channel
     ensures { result ≡ filter_initial_state x0 coeffs }
 {
@@ -50,8 +51,7 @@ pub fn filter_adapt_state_for_coeff_change(
 ) -> Channel
     ensures { result ≡ filter_adapt_state_for_coeff_change last_y old new channel }
 {
-    let phase = channel.phase;
-    match phase {
+    match channel.phase {
         Phase::Averaging(_, _) => channel,
         Phase::Running(s0, s1) => {
             let n0 = s0 + (old.b0 - new.b0) * last_y;
@@ -64,6 +64,7 @@ pub fn filter_adapt_state_for_coeff_change(
 }
 
 // A sample into a running channel.
+#[tactic(auto, unfolding(crate::specs::Channels::filter_step))]
 pub fn filter_step(x: f64, coeffs: Coeffs, s0: f64, s1: f64) -> Filtered
     ensures { result ≡ filter_step binary64 x coeffs s0 s1 }
 {
@@ -78,6 +79,7 @@ pub fn filter_step(x: f64, coeffs: Coeffs, s0: f64, s1: f64) -> Filtered
 
 // A sample into an averaging channel. Where the samples fill tau the channel runs from the next one
 // on, and this one's answer is still the average.
+#[tactic(auto, unfolding(crate::specs::Channels::average))]
 fn average(x: f64, tau: f64, ts: f64, coeffs: Coeffs, count: f64, sum: f64) -> Filtered
     ensures { result ≡ average binary64 x tau ts coeffs count sum }
 {
@@ -96,33 +98,33 @@ fn average(x: f64, tau: f64, ts: f64, coeffs: Coeffs, count: f64, sum: f64) -> F
 }
 
 // A sample into a channel.
+#[tactic(auto, unfolding(crate::specs::Channels::filter_channel))]
 pub fn filter_channel(x: f64, tau: f64, ts: f64, coeffs: Coeffs, channel: Channel) -> Filtered
     ensures { result ≡ filter_channel binary64 x tau ts coeffs channel }
 {
-    let phase = channel.phase;
-    match phase {
+    match channel.phase {
         Phase::Averaging(count, sum) => average(x, tau, ts, coeffs, count, sum),
         Phase::Running(s0, s1) => filter_step(x, coeffs, s0, s1),
     }
 }
 
 // The count, or the first memory.
+#[tactic(auto, unfolding(crate::specs::Channels::first_number))]
 pub fn first_number(channel: Channel) -> f64
     ensures { result ≡ first_number channel }
 {
-    let phase = channel.phase;
-    match phase {
+    match channel.phase {
         Phase::Averaging(count, _) => count,
         Phase::Running(s0, _) => s0,
     }
 }
 
 // Whether the two numbers that the channel stores are finite.
+#[tactic(auto, unfolding(crate::specs::Channels::finite_channel))]
 pub fn finite_channel(channel: Channel) -> bool
     ensures { result ≡ finite_channel channel }
 {
-    let phase = channel.phase;
-    match phase {
+    match channel.phase {
         Phase::Averaging(count, sum) => floats::finite(count) & floats::finite(sum),
         Phase::Running(s0, s1) => floats::finite(s0) & floats::finite(s1),
     }

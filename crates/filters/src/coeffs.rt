@@ -2,9 +2,7 @@ ghost use Rattle.std.specs.Prelude.{◌≡◌};
 ghost use Rattle.std.specs.Float.{binary64};
 ghost use Rattle.filters.specs.Coefficients.{filter_coeffs, finite_coeffs, gain_from_tau};
 
-use floats::PI;
-
-const SQRT_2: f64 = 1.4142135623730951;
+use std::f64::consts::{PI, SQRT_2};
 
 // Three coefficients b and two coefficients a.
 #[derive(Clone, Copy)]
@@ -17,6 +15,7 @@ pub struct Coeffs {
 }
 
 // A Butterworth filter of second order with the time constant tau, for samples ts apart.
+#[tactic(auto, unfolding(crate::specs::Coefficients::angle, crate::specs::Coefficients::coeffs, crate::specs::Coefficients::filter_coeffs))]
 pub fn filter_coeffs(tau: f64, ts: f64) -> Coeffs
     ensures { result ≡ filter_coeffs tau ts }
 {
@@ -34,6 +33,7 @@ pub fn filter_coeffs(tau: f64, ts: f64) -> Coeffs
 }
 
 // Whether all five are finite.
+#[tactic(auto, unfolding(crate::specs::Coefficients::finite_coeffs))]
 pub fn finite_coeffs(k: Coeffs) -> bool
     ensures { result ≡ finite_coeffs k }
 {
@@ -45,6 +45,7 @@ pub fn finite_coeffs(k: Coeffs) -> bool
 }
 
 // The gain of a filter of first order: 0 for a tau below 0, 1 for 0.
+#[tactic(auto, unfolding(crate::specs::Coefficients::gain_from_tau))]
 pub fn gain_from_tau(tau: f64, ts: f64) -> f64
     ensures { result ≡ gain_from_tau binary64 tau ts }
 {

@@ -5,7 +5,7 @@ ghost use Rattle.inertial.specs.Asked.{quat_3d, quat_6d, bias_estimate, row_sum,
 
 use crate::types::Inertial;
 use algebra::{Quaternion, Vector};
-use floats::PI;
+use std::f64::consts::PI;
 use tilt::Deviations;
 
 // A bias and its uncertainty in the worst direction.

@@ -8,6 +8,7 @@ use crate::types::Inertial;
 use algebra::Vector;
 use limits::Updated;
 use tilt::Inclination;
+use tilt::gyr::BeforeGyr;
 
 impl Inertial {
     // A gyro sample in rad/s.
@@ -22,16 +23,15 @@ impl Inertial {
     pub fn update_gyr_with_ts(self, gyr: Vector, ts: f64) -> Updated<Inertial>
         ensures { told_of result ≡ update_gyr_with_ts binary64 self gyr ts }
     {
-        let u = tilt::gyr::update_gyr(
-            self.state.rest,
-            self.params.rest,
-            self.coeffs.gyr_ts,
-            self.coeffs.rest_gyr_lp,
-            self.state.inclination.gyr_quat,
-            self.state.bias.bias,
-            gyr,
-            ts,
-        );
+        let before = BeforeGyr {
+            rest: self.state.rest,
+            params: self.params.rest,
+            gyr_ts: self.coeffs.gyr_ts,
+            coeffs: self.coeffs.rest_gyr_lp,
+            quat: self.state.inclination.gyr_quat,
+            bias: self.state.bias.bias,
+        };
+        let u = before.update(gyr, ts);
         let inclination = Inclination {
             gyr_quat: u.quat,
             ..self.state.inclination

@@ -156,7 +156,7 @@ fn in_motion(
 fn unmeasured(r: Matrix) -> Measurement
     ensures { result ≡ unmeasured binary64 r }
 {
-    let e = Vector(0.0, 0.0, 0.0);
+    let e = Vector::ZERO;
     let w = Vector(-1.0, -1.0, -1.0);
     Measurement { e, w, r }
 }

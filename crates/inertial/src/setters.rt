@@ -9,8 +9,8 @@ use crate::types::{
 };
 use algebra::{Matrix, Vector};
 use filters::{Channel, Coeffs};
-use floats::PI;
 use limits::{Answer, Updated, sample, setting};
+use std::f64::consts::PI;
 use tilt::angle::radians;
 use tilt::setters::adapted_inclination;
 use tilt::{Rest, RestParams};

@@ -6,7 +6,7 @@ ghost use Rattle.magnetic.specs.Fields.{norm_and_dip, smoothed, near, undisturbe
 
 use crate::types::{Field, MagneticCoefficients, MagneticParams, NormDip};
 use algebra::Vector;
-use floats::PI;
+use std::f64::consts::PI;
 
 #[tactic(auto, unfolding(crate::specs::Fields::norm_and_dip))]
 fn norm_and_dip(mag_earth: Vector) -> NormDip

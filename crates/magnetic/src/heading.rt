@@ -4,7 +4,7 @@ ghost use Rattle.std.specs.Float.{binary64};
 ghost use Rattle.magnetic.specs.Headings.{wrapped, rejected, lifted, next_init, corrected, finite_heading};
 
 use crate::types::{Field, Heading, MagneticCoefficients, MagneticParams};
-use floats::PI;
+use std::f64::consts::PI;
 
 // A gain, and the field with its rejection time.
 #[derive(Clone, Copy)]

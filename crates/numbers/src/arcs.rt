@@ -5,14 +5,12 @@ ghost use Rattle.floats.specs.Fractions.{sign};
 ghost use Rattle.numbers.specs.Arcs.{kasin, near_one, ratio, katan, upper, asin, acos, atan2};
 
 use crate::roots::sqrt;
-use floats::PI;
+use std::f64::consts::{FRAC_PI_2, PI};
 
-// pi and pi / 2, and what each lacks.
+// What PI and FRAC_PI_2 lack.
 const PI_LO: f64 = 1.2246467991473532e-16;
 
-const PIO2: f64 = 1.5707963267948966;
-
-const PIO2_LO: f64 = 6.123233995736766e-17;
+const FRAC_PI_2_LO: f64 = 6.123233995736766e-17;
 
 const A0: f64 = 0.16666666666665408;
 
@@ -39,6 +37,7 @@ const A10: f64 = -0.0162249749206657;
 const A11: f64 = 0.031912724911284364;
 
 // (asin(s) - s) / s, for a z of s * s, from 0 to 0.25.
+#[tactic(auto, unfolding(crate::specs::Arcs::kasin))]
 fn kasin(z: f64) -> f64
     ensures { result ≡ kasin z }
 {
@@ -57,6 +56,7 @@ struct Parts {
     q: f64,
 }
 
+#[tactic(auto, unfolding(crate::specs::Arcs::near_one))]
 fn near_one(a: f64) -> Parts
     ensures { result ≡ near_one a }
 {
@@ -67,16 +67,21 @@ fn near_one(a: f64) -> Parts
 }
 
 // The angle in radians whose sine is x, from -PI/2 to PI/2.
+#[tactic(auto, unfolding(crate::specs::Arcs::arcsine))]
 pub fn asin(x: f64) -> f64
     ensures { result ≡ asin binary64 x }
 {
     if (-1.0 <= x) & (x <= 1.0) {
         let a = floats::magnitude(x);
         if a <= 0.5 {
-            floats::clamp(x + x * kasin(x * x), -PIO2, PIO2)
+            floats::clamp(x + x * kasin(x * x), -FRAC_PI_2, FRAC_PI_2)
         } else {
             let h = near_one(a);
-            let v = floats::clamp((PIO2 - h.g) + (PIO2_LO - h.q), -PIO2, PIO2);
+            let v = floats::clamp(
+                (FRAC_PI_2 - h.g) + (FRAC_PI_2_LO - h.q),
+                -FRAC_PI_2,
+                FRAC_PI_2,
+            );
             if x < 0.0 { -v } else { v }
         }
     } else {
@@ -85,13 +90,14 @@ pub fn asin(x: f64) -> f64
 }
 
 // The angle in radians whose cosine is x, from 0 to PI.
+#[tactic(auto, unfolding(crate::specs::Arcs::arccosine))]
 pub fn acos(x: f64) -> f64
     ensures { result ≡ acos binary64 x }
 {
     if (-1.0 <= x) & (x <= 1.0) {
         let a = floats::magnitude(x);
         if a <= 0.5 {
-            floats::clamp(PIO2 - (x + (x * kasin(x * x) - PIO2_LO)), 0.0, PI)
+            floats::clamp(FRAC_PI_2 - (x + (x * kasin(x * x) - FRAC_PI_2_LO)), 0.0, PI)
         } else {
             let h = near_one(a);
             if x < 0.0 {
@@ -106,6 +112,7 @@ pub fn acos(x: f64) -> f64
 }
 
 // n / d, and 0 where d is 0.
+#[tactic(auto, unfolding(crate::specs::Arcs::ratio))]
 fn ratio(n: f64, d: f64) -> f64
     ensures { result ≡ ratio n d }
 {
@@ -153,6 +160,7 @@ const T18: f64 = -0.0001522106732397829;
 const T19: f64 = 1.3229952258016625e-05;
 
 // hi + lo + the arc tangent of n / d, for an n no larger in size than d.
+#[tactic(auto, unfolding(crate::specs::Arcs::katan))]
 fn katan(n: f64, d: f64, hi: f64, lo: f64) -> f64
     ensures { result ≡ katan n d hi lo }
 {
@@ -178,11 +186,12 @@ fn negative(x: f64) -> bool
 }
 
 // The angle of the point (x, y), for a y from 0 up.
+#[tactic(auto, unfolding(crate::specs::Arcs::upper))]
 fn upper(y: f64, x: f64) -> f64
     ensures { result ≡ upper y x }
 {
     if floats::magnitude(x) < y {
-        katan(-x, y, PIO2, PIO2_LO)
+        katan(-x, y, FRAC_PI_2, FRAC_PI_2_LO)
     } else if negative(x) {
         katan(y, x, PI, PI_LO)
     } else {
@@ -191,6 +200,7 @@ fn upper(y: f64, x: f64) -> f64
 }
 
 // The angle in radians of the point (x, y), from -PI to PI.
+#[tactic(auto, unfolding(crate::specs::Arcs::angle))]
 pub fn atan2(y: f64, x: f64) -> f64
     ensures { result ≡ atan2 binary64 y x }
 {

@@ -3,6 +3,8 @@ ghost use Rattle.std.specs.Prelude.{◌≡◌};
 ghost use Rattle.std.specs.Float.{binary64};
 ghost use Rattle.numbers.specs.Exponential.{kexp, power, exp};
 
+use std::f64::consts::LOG2_E;
+
 // The exponential is given from -EXP_LIMIT to 0.
 const EXP_LIMIT: f64 = 10000.0;
 
@@ -30,6 +32,7 @@ const E8: f64 = 2.762463362342066e-07;
 const E9: f64 = 2.498016417073605e-08;
 
 // e^r, for an r within ±0.3466.
+#[tactic(auto, unfolding(crate::specs::Exponential::kexp))]
 fn kexp(r: f64) -> f64
     ensures { result ≡ kexp r }
 {
@@ -52,20 +55,18 @@ fn power(t: f64) -> f64
     floats::from_bits((floats::to_bits(t) & 0x7ff) << 52)
 }
 
-// The logarithm of e to base 2.
-const LOG2E: f64 = 1.4426950408889634;
-
-// That of 2 to base e, in two parts. The first has 42 bits, so k * L1 is exact.
+// The logarithm of 2 to base e, in two parts. The first has 42 bits, so k * L1 is exact.
 const L1: f64 = 0.6931471805598903;
 
 const L2: f64 = 5.497923018708371e-14;
 
 // e to the power of x.
+#[tactic(auto, unfolding(crate::specs::Exponential::exponential))]
 pub fn exp(x: f64) -> f64
     ensures { result ≡ exp binary64 x }
 {
     if (-EXP_FLOOR <= x) & (x <= 0.0) {
-        let t = x * LOG2E + EXP_MAGIC;
+        let t = x * LOG2_E + EXP_MAGIC;
         let k = t - EXP_MAGIC;
         let r = (x - k * L1) - k * L2;
         floats::clamp(kexp(r) * power(t), 0.0, 1.0)

@@ -18,5 +18,5 @@ pub use crate::sines::{cos, sin, tan};
 fn nan() -> f64
     ensures { result ≡ nan }
 {
-    0.0 / 0.0
+    f64::NAN
 }

@@ -24,6 +24,7 @@ const S4: f64 = 2.5050734377788088e-08;
 const S5: f64 = -1.5895432532843642e-10;
 
 // sin(r - d), for an r within ±0.7855 and a d that is small beside it.
+#[tactic(auto, unfolding(crate::specs::Sines::ksin))]
 fn ksin(r: f64, d: f64) -> f64
     ensures { result ≡ ksin r d }
 {
@@ -46,6 +47,7 @@ const C4: f64 = 2.0875705112608293e-09;
 const C5: f64 = -1.135873261096118e-11;
 
 // cos(r - d), for the same r and d.
+#[tactic(auto, unfolding(crate::specs::Sines::kcos))]
 fn kcos(r: f64, d: f64) -> f64
     ensures { result ≡ kcos r d }
 {
@@ -75,6 +77,7 @@ struct Reduced {
     d: f64,
 }
 
+#[tactic(auto, unfolding(crate::specs::Sines::reduce))]
 fn reduce(x: f64) -> Reduced
     ensures { result ≡ reduce x }
 {
@@ -88,6 +91,7 @@ fn reduce(x: f64) -> Reduced
 }
 
 // The sine of an angle so written.
+#[tactic(auto, unfolding(crate::specs::Sines::sine_of))]
 fn sine_of(t: Reduced) -> f64
     ensures { result ≡ sine_of t }
 {
@@ -102,6 +106,7 @@ fn sine_of(t: Reduced) -> f64
     }
 }
 
+#[tactic(auto, unfolding(crate::specs::Sines::cosine_of))]
 fn cosine_of(t: Reduced) -> f64
     ensures { result ≡ cosine_of t }
 {
@@ -117,6 +122,7 @@ fn cosine_of(t: Reduced) -> f64
 }
 
 // The sine of x radians.
+#[tactic(auto, unfolding(crate::specs::Sines::sine))]
 pub fn sin(x: f64) -> f64
     ensures { result ≡ sin binary64 x }
 {
@@ -130,6 +136,7 @@ pub fn sin(x: f64) -> f64
 }
 
 // The cosine of x radians.
+#[tactic(auto, unfolding(crate::specs::Sines::cosine))]
 pub fn cos(x: f64) -> f64
     ensures { result ≡ cos binary64 x }
 {
@@ -143,6 +150,7 @@ pub fn cos(x: f64) -> f64
 }
 
 // The tangent of x radians.
+#[tactic(auto, unfolding(crate::specs::Sines::tan))]
 pub fn tan(x: f64) -> f64
     ensures { result ≡ tan x }
 {

@@ -6,7 +6,7 @@ ghost use Rattle.std.specs.Float.{binary64};
 ghost use Rattle.readable.specs.Angles.{degrees, tilt, heading, signed, to_tenths};
 
 use algebra::{Quaternion, Vector};
-use floats::PI;
+use std::f64::consts::PI;
 
 // Whole tenths, and whether the number is below zero.
 #[derive(Clone, Copy)]

@@ -8,9 +8,6 @@ use std::io;
 use std::io::{Stdin, Stdout};
 use streams::Input;
 
-// From 1 to the next float.
-const EPSILON: f64 = 2.220446049250313e-16;
-
 // The bits of the root of the float with the bits x.
 fn put(stdout: Stdout, x: u64) -> io::Result<()> {
     let root = numbers::sqrt(floats::from_bits(x));
@@ -43,7 +40,7 @@ fn subnormals(stdout: Stdout) -> io::Result<()> {
 // Any bits; a sign that is clear; a small exponent; a short significand; next to a power of two.
 fn drawn(stdout: Stdout, count: u64) -> io::Result<()> {
     let mut s = 0x9e37_79b9_7f4a_7c15;
-    for n in 0..count {
+    for _ in 0..count {
         s = next(s);
         put(stdout, s)?;
         put(stdout, s >> 1)?;
@@ -65,7 +62,7 @@ fn put_squares(stdout: Stdout, r: u64) -> io::Result<()> {
     let short = floats::from_bits((r >> 27) << 27);
     put_about(stdout, floats::to_bits(x * x))?;
     put_about(stdout, floats::to_bits(short * short))?;
-    put_middle(stdout, x, floats::from_bits((r >> 52) << 52) * EPSILON)
+    put_middle(stdout, x, floats::from_bits((r >> 52) << 52) * f64::EPSILON)
 }
 
 // A q below 2^52 with q * q + q equal to t modulo 2^52, for an even t. It is found digit by digit:
@@ -91,7 +88,7 @@ fn put_hard(stdout: Stdout, t: u64) -> io::Result<()> {
     put_middle(
         stdout,
         floats::from_bits(middle(t) | 0x3ff0_0000_0000_0000),
-        EPSILON,
+        f64::EPSILON,
     )
 }
 
@@ -108,7 +105,7 @@ fn put_close(stdout: Stdout, s: u64, t: u64) -> io::Result<()> {
 fn close(stdout: Stdout, count: u64) -> io::Result<()> {
     let mut s = 0xd1b5_4a32_d192_ed03;
     let mut t = 0x9e37_79b9_7f4a_7c15;
-    for n in 0..count {
+    for _ in 0..count {
         s = next(s);
         t = next(t);
         put_close(stdout, s, t)?;
@@ -128,34 +125,34 @@ fn put_all(stdout: Stdout, count: u64) -> io::Result<()> {
     close(stdout, count)
 }
 
-// More than any count that is taken.
-const OTHER: u64 = 1_000_000_000;
-
-// The count with one more digit; a line end adds nothing.
-fn with(count: u64, byte: u8) -> u64 {
+// The count with one more digit, where it is below 1,000,000,000; a line end adds nothing.
+fn with(count: u64, byte: u8) -> Option<u64> {
     match byte {
-        b'\n' => count,
-        b'0'..=b'9' if count < 100_000_000 => count * 10 + u64::from(byte - b'0'),
-        _ => OTHER,
+        b'\n' => Some(count),
+        b'0'..=b'9' if count < 100_000_000 => Some(count * 10 + u64::from(byte - b'0')),
+        _ => None,
     }
 }
 
-// How many times to draw.
-fn read(stdin: Stdin) -> io::Result<u64> {
-    let mut count = None;
-    for byte in Input::from(stdin).take(4096) {
-        count = Some(with(count.unwrap_or(0), byte?));
+// How many times to draw, where the standard input is nothing or a count.
+fn read(stdin: Stdin) -> io::Result<Option<u64>> {
+    let mut bytes = Input::from(stdin).take(4096).peekable();
+    if bytes.peek().is_none() {
+        return Ok(Some(1000));
     }
-    Ok(count.unwrap_or(1000))
+    let mut count = Some(0);
+    for byte in bytes {
+        let byte = byte?;
+        count = count.and_then(|count| with(count, byte));
+    }
+    Ok(count)
 }
 
 fn main(rt: HostRuntime) -> io::Result<()> {
-    let count = read(rt.stdin())?;
-    if count < OTHER {
-        put_all(rt.stdout(), count)
-    } else {
-        rt.stderr().write_all(
-            b"roots: the standard input is not a whole number below 1,000,000,000\n",
-        )
+    match read(rt.stdin())? {
+        Some(count) => put_all(rt.stdout(), count),
+        None => println!(rt.stderr();
+            "roots: the standard input is not a whole number below 1,000,000,000"
+        ),
     }
 }

@@ -1,47 +1,24 @@
--- The words of a script that are no numbers, each by its bytes behind a 1, and how many words follow a name.
-use Rattle.std.specs.Prelude.{cond, ℕ, eqb, List, codes, Option, Some, None}
+-- The words of a script that are no numbers, and how many words follow a name.
+use Rattle.std.specs.Prelude.{cond, ℕ, eqb, List, fold, codes, Option, Some, None}
+use Rattle.words.specs.Words.{packed}
 use Rattle.script.specs.declared.names.Name.{Name}
 use Rattle.script.specs.declared.names.Name.TheVariants.{New, Gyr, GyrTs, Acc, Mag, Upd, TauAcc, TauMag, Motion, Rest, Dist, Th, Bias, MagRef, Reset, State, Get, Sqrt, Sin, Cos, Tan, Exp, Asin, Acos, Atan2}
 
+-- a word of at most seven bytes as a number: its bytes behind a 1
+abbrev pub spelt : List ℕ → ℕ
+spelt bytes = fold packed 1 bytes
+
 abbrev pub DASH : ℕ
-DASH = 0x012d
+DASH = spelt (codes "-")
 
 abbrev pub ZERO : ℕ
-ZERO = 0x0130
+ZERO = spelt (codes "0")
 
 abbrev pub ONE : ℕ
-ONE = 0x0131
+ONE = spelt (codes "1")
 
 abbrev pub HOUSE : ℕ
-HOUSE = 0x0168_6f75_7365
-
-unfoldable pub name_of : ℕ → Option Name
-name_of text =
-    cond (eqb text 0x016e_6577) (Some New)
-    (cond (eqb text 0x0167_7972) (Some Gyr)
-    (cond (eqb text 0x0167_7972_7473) (Some GyrTs)
-    (cond (eqb text 0x0161_6363) (Some Acc)
-    (cond (eqb text 0x016d_6167) (Some Mag)
-    (cond (eqb text 0x0175_7064) (Some Upd)
-    (cond (eqb text 0x0174_6175_5f61_6363) (Some TauAcc)
-    (cond (eqb text 0x0174_6175_5f6d_6167) (Some TauMag)
-    (cond (eqb text 0x01_6d6f_7469_6f6e) (Some Motion)
-    (cond (eqb text 0x01_7265_7374) (Some Rest)
-    (cond (eqb text 0x01_6469_7374) (Some Dist)
-    (cond (eqb text 0x01_7468) (Some Th)
-    (cond (eqb text 0x01_6269_6173) (Some Bias)
-    (cond (eqb text 0x01_6d61_6772_6566) (Some MagRef)
-    (cond (eqb text 0x0172_6573_6574) (Some Reset)
-    (cond (eqb text 0x0173_7461_7465) (Some State)
-    (cond (eqb text 0x0167_6574) (Some Get)
-    (cond (eqb text 0x01_7371_7274) (Some Sqrt)
-    (cond (eqb text 0x0173_696e) (Some Sin)
-    (cond (eqb text 0x0163_6f73) (Some Cos)
-    (cond (eqb text 0x0174_616e) (Some Tan)
-    (cond (eqb text 0x0165_7870) (Some Exp)
-    (cond (eqb text 0x01_6173_696e) (Some Asin)
-    (cond (eqb text 0x01_6163_6f73) (Some Acos)
-    (cond (eqb text 0x0161_7461_6e32) (Some Atan2) None))))))))))))))))))))))))
+HOUSE = spelt (codes "house")
 
 -- how a name is written
 abbrev pub text : Name → List ℕ
@@ -70,6 +47,34 @@ text Exp = codes "exp"
 text Asin = codes "asin"
 text Acos = codes "acos"
 text Atan2 = codes "atan2"
+
+unfoldable pub name_of : ℕ → Option Name
+name_of word =
+    cond (eqb word (spelt (text New))) (Some New)
+    (cond (eqb word (spelt (text Gyr))) (Some Gyr)
+    (cond (eqb word (spelt (text GyrTs))) (Some GyrTs)
+    (cond (eqb word (spelt (text Acc))) (Some Acc)
+    (cond (eqb word (spelt (text Mag))) (Some Mag)
+    (cond (eqb word (spelt (text Upd))) (Some Upd)
+    (cond (eqb word (spelt (text TauAcc))) (Some TauAcc)
+    (cond (eqb word (spelt (text TauMag))) (Some TauMag)
+    (cond (eqb word (spelt (text Motion))) (Some Motion)
+    (cond (eqb word (spelt (text Rest))) (Some Rest)
+    (cond (eqb word (spelt (text Dist))) (Some Dist)
+    (cond (eqb word (spelt (text Th))) (Some Th)
+    (cond (eqb word (spelt (text Bias))) (Some Bias)
+    (cond (eqb word (spelt (text MagRef))) (Some MagRef)
+    (cond (eqb word (spelt (text Reset))) (Some Reset)
+    (cond (eqb word (spelt (text State))) (Some State)
+    (cond (eqb word (spelt (text Get))) (Some Get)
+    (cond (eqb word (spelt (text Sqrt))) (Some Sqrt)
+    (cond (eqb word (spelt (text Sin))) (Some Sin)
+    (cond (eqb word (spelt (text Cos))) (Some Cos)
+    (cond (eqb word (spelt (text Tan))) (Some Tan)
+    (cond (eqb word (spelt (text Exp))) (Some Exp)
+    (cond (eqb word (spelt (text Asin))) (Some Asin)
+    (cond (eqb word (spelt (text Acos))) (Some Acos)
+    (cond (eqb word (spelt (text Atan2))) (Some Atan2) None))))))))))))))))))))))))
 
 -- how many words follow a name at most
 abbrev pub most : Name → ℕ

@@ -14,6 +14,10 @@ pub struct Lines<R: Read> {
 }
 
 impl<R: Read> From<R> for Lines<R> {
+    ghost use Rattle.std.specs.Prelude.{◌≡◌, false};
+
+    ghost from_gives = { λ reader l. (l.input ≡ R.remaining reader) × (l.is_over ≡ false) };
+
     fn from(reader: R) -> Lines<R> {
         Lines {
             input: Input::from(reader),

@@ -2,7 +2,7 @@ ghost use Rattle.std.specs.Prelude.{◌≡◌};
 ghost use Rattle.std.specs.Float.{binary64};
 ghost use Rattle.tilt.specs.Scalars.{radians};
 
-use floats::PI;
+use std::f64::consts::PI;
 
 // An angle or a rate in degrees, in radians.
 pub fn radians(degrees: f64) -> f64

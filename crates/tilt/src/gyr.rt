@@ -1,7 +1,8 @@
 // The gyro step.
 ghost use Rattle.std.specs.Prelude.{◌≡◌};
 ghost use Rattle.std.specs.Float.{binary64};
-ghost use Rattle.tilt.specs.Gyr.{after_gyr, update_gyr, gyr_step, gyr_rest, gyr_filtered, finite_gyr_rest, gyr_stirred, predicted, turned};
+ghost use Rattle.limits.specs.Answers.{number};
+ghost use Rattle.tilt.specs.Gyr.{told_gyr, after_gyr, update_gyr, gyr_step, gyr_rest, gyr_filtered, finite_gyr_rest, gyr_stirred, predicted, turned};
 
 use crate::angle::radians;
 use crate::rest::{broken, squared_deviation};
@@ -19,66 +20,59 @@ pub struct AfterGyr {
     pub quat: Quaternion,
 }
 
-// A gyro sample, from all that a filter lends to it; of the bias that is the estimate alone.
-#[tactic(auto, unfolding(crate::specs::Gyr::update_gyr))]
-pub fn update_gyr(
-    rest: Rest,
-    p: RestParams,
-    gyr_ts: f64,
-    coeffs: Coeffs,
-    quat: Quaternion,
-    bias: Vector,
-    gyr: Vector,
-    ts: f64,
-) -> AfterGyr
-    ensures { after_gyr result ≡ update_gyr binary64 rest p gyr_ts coeffs quat bias gyr ts }
-{
-    if limits::sample::gyr_taken(gyr) {
-        if limits::sample::interval_taken(ts) {
-            gyr_step(rest, p, gyr_ts, coeffs, quat, bias, gyr, ts)
-        } else {
-            AfterGyr {
-                answer: Answer::BadInterval,
-                rest,
-                quat,
-            }
-        }
-    } else {
-        AfterGyr {
-            answer: Answer::BadSample,
-            rest,
-            quat,
-        }
-    }
+// All that a filter lends to a gyro sample; of the bias that is the estimate alone.
+#[derive(Clone, Copy)]
+pub struct BeforeGyr {
+    pub rest: Rest,
+    pub params: RestParams,
+    pub gyr_ts: f64,
+    pub coeffs: Coeffs,
+    pub quat: Quaternion,
+    pub bias: Vector,
 }
 
-// The step on a sample and an interval that are taken.
-#[tactic(auto, unfolding(crate::specs::Gyr::gyr_step))]
-fn gyr_step(
-    rest: Rest,
-    p: RestParams,
-    gyr_ts: f64,
-    coeffs: Coeffs,
-    quat: Quaternion,
-    bias: Vector,
-    gyr: Vector,
-    ts: f64,
-) -> AfterGyr
-    ensures { after_gyr result ≡ gyr_step binary64 rest p gyr_ts coeffs quat bias gyr ts }
-{
-    let tried_rest = gyr_rest(rest, p, gyr_ts, coeffs, gyr);
-    let tried_quat = predicted(quat, bias, gyr, ts);
-    if tried_rest.finite & tried_quat.finite {
+impl BeforeGyr {
+    fn unchanged(self, answer: Answer) -> AfterGyr
+        ensures { after_gyr result ≡ told_gyr (number answer) self.rest self.quat }
+    {
         AfterGyr {
-            answer: Answer::Done,
-            rest: tried_rest.value,
-            quat: tried_quat.value,
+            answer,
+            rest: self.rest,
+            quat: self.quat,
         }
-    } else {
-        AfterGyr {
-            answer: Answer::NotFinite,
-            rest,
-            quat,
+    }
+
+    // A gyro sample that lasted ts seconds.
+    #[tactic(auto, unfolding(crate::specs::Gyr::update_gyr))]
+    pub fn update(self, gyr: Vector, ts: f64) -> AfterGyr
+        ensures { after_gyr result ≡ update_gyr binary64 self.rest self.params self.gyr_ts self.coeffs self.quat self.bias gyr ts }
+    {
+        if limits::sample::gyr_taken(gyr) {
+            if limits::sample::interval_taken(ts) {
+                self.step(gyr, ts)
+            } else {
+                self.unchanged(Answer::BadInterval)
+            }
+        } else {
+            self.unchanged(Answer::BadSample)
+        }
+    }
+
+    // The step on a sample and an interval that are taken.
+    #[tactic(auto, unfolding(crate::specs::Gyr::gyr_step))]
+    fn step(self, gyr: Vector, ts: f64) -> AfterGyr
+        ensures { after_gyr result ≡ gyr_step binary64 self.rest self.params self.gyr_ts self.coeffs self.quat self.bias gyr ts }
+    {
+        let rest = gyr_rest(self.rest, self.params, self.gyr_ts, self.coeffs, gyr);
+        let quat = predicted(self.quat, self.bias, gyr, ts);
+        if rest.finite & quat.finite {
+            AfterGyr {
+                answer: Answer::Done,
+                rest: rest.value,
+                quat: quat.value,
+            }
+        } else {
+            self.unchanged(Answer::NotFinite)
         }
     }
 }

@@ -12,7 +12,7 @@ pub fn read_full(mut stdin: Stdin, text: &mut [u8; 4096]) -> io::Result<usize>
     ensures { IfOk result (λ n. n ≤ 4096) }
 {
     let mut at = 0usize;
-    for turn in 0..4096u32 {
+    for _ in 0..4096u32 {
         let count = stdin.read(&mut text[at..])?;
         if count == 0 {
             return Ok(at);

@@ -1,5 +1,5 @@
 // Calls of one kind on a fresh house filter.
-use crate::output::{put_count, put_number, put_quaternion, put_vector};
+use crate::output::{put_count, put_numbers, put_quaternion, put_vector};
 use algebra::Vector;
 use limits::Answer;
 use std::io;
@@ -47,8 +47,6 @@ pub fn play_acc(stdout: Stdout, count: u64) -> io::Result<()> {
 pub fn play_mag(stdout: Stdout, count: u64) -> io::Result<()> {
     let (done, f) = play(count, |f, x| f.update_mag(Vector(x, 20.0, -40.0)));
     put_count(stdout, done)?;
-    put_number(stdout, f.delta())?;
     let norm_dip = f.magnetic.state.field.mag_norm_dip;
-    put_number(stdout, norm_dip.0)?;
-    put_number(stdout, norm_dip.1)
+    put_numbers(stdout, &[f.delta(), norm_dip.0, norm_dip.1])
 }

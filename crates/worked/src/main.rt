@@ -104,10 +104,13 @@ fn first_gain(stdout: Stdout) -> io::Result<()> {
 }
 
 fn no_gain() -> Params {
-    let inertial = InertialParams::HOUSE;
-    let mut magnetic = MagneticParams::HOUSE;
-    magnetic.tau_mag = -1.0;
-    Params { inertial, magnetic }
+    Params {
+        inertial: InertialParams::HOUSE,
+        magnetic: MagneticParams {
+            tau_mag: -1.0,
+            ..MagneticParams::HOUSE
+        },
+    }
 }
 
 fn moved(stdout: Stdout, line: u64, f: VQF) -> io::Result<()> {

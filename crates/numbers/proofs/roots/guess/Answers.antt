@@ -1,7 +1,6 @@
 -- `numbers::guess` meets its contract: whatever the floats come to, the result is in range.
 use Rattle.floats.specs.Prelude.{ℕ, ◌+◌, ◌*◌, ◌/◌, ◌%◌, ◌^◌, ◌≤◌, ◌<◌, div-le_self, arith, binary64}
 use Rattle.floats.specs.NoNan.{number_bits}
-use Rattle.floats.specs.NoNan.{self_equal}
 use Rattle.numbers.proofs.roots.guess.Goals as goal
 
 -- the pattern that it reads is below a NaN's
@@ -19,6 +18,3 @@ float_from_bits-bits c = number_bits binary64 _ (omega (arith, small c.args.c c.
 
 pub by_floats-s-requires : goal.by_floats-s-requires
 by_floats-s-requires c = (omega (arith, small c.args.c c.requires.1), omega arith)
-
-pub float_to_bits-n : goal.float_to_bits-n
-float_to_bits-n c = self_equal _ c.if-s.true

@@ -2,5 +2,5 @@
 use Rattle.std.proofs.Common.{◌≤◌}
 use Rattle.times.proofs.input.read_full.Given as goal
 
-abbrev pub invariant-loop-turn : goal.invariant-loop-turn
-invariant-loop-turn l = l.at ≤ 4096
+abbrev pub invariant-loop : goal.invariant-loop
+invariant-loop l = l.at ≤ 4096
