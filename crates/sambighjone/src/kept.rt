@@ -25,7 +25,7 @@ pub fn keep(image: &mut [f64], u: Updated) -> u32
 }
 
 // A call that changes the filter.
-pub fn fed<F: FnOnce(VQF) -> Updated>(image: &mut [f64], call: F) -> u32
+pub(crate) fn fed<F: FnOnce(VQF) -> Updated>(image: &mut [f64], call: F) -> u32
     requires { F.IsAlwaysCallable call }
     ensures { (step : VQF → Told VQF) → ((f : VQF) (u : _) → F.post call f u → told_of u ≡ step f) → told result image.new ≡ fed step image.old }
 {
@@ -35,7 +35,7 @@ pub fn fed<F: FnOnce(VQF) -> Updated>(image: &mut [f64], call: F) -> u32
 
 // A call that changes the filter by a switch, which is 0 or 1.
 #[tactic(auto, unfolding(crate::specs::Calls::switched))]
-pub fn switched<F: FnOnce(VQF, bool) -> Updated>(image: &mut [f64], on: u32, set: F) -> u32
+pub(crate) fn switched<F: FnOnce(VQF, bool) -> Updated>(image: &mut [f64], on: u32, set: F) -> u32
     requires { F.IsAlwaysCallable set }
     ensures { (step : VQF → Bool → Told VQF) → ((f : VQF) (b : Bool) (u : _) → F.post set f b u → told_of u ≡ step f b) → told result image.new ≡ switched step on image.old }
 {

@@ -23,7 +23,7 @@ pub fn put<T: Copy>(out: &mut [T], xs: &[T]) -> u32
 
 // A call that asks: it puts the numbers of what the filter answers.
 #[tactic(auto, unfolding(crate::specs::Calls::asked))]
-pub fn asked<T: Copy, Q, A: AsSlice<T> + Drop, F: FnOnce(VQF) -> Q, N: FnOnce(Q) -> A>(
+pub(crate) fn asked<T: Copy, Q, A: AsSlice<T> + Drop, F: FnOnce(VQF) -> Q, N: FnOnce(Q) -> A>(
     image: &[f64],
     out: &mut [T],
     question: F,
