@@ -1,6 +1,6 @@
 -- What the methods of f64 give is what the definitions say.
-use Rattle.floats.specs.Prelude.{◌≡◌, refl, sym, ap, true≢false, Bool, true, false, ◌||◌, cond, ◌*◌, T, Float, nan, inf, fin, binary64, finite, up, down, lt, eq, is_nan, to_bits}
-use Rattle.std.specs.Float.{float_with_sign, float_is_finite}
+use Rattle.floats.specs.Prelude.{◌≡◌, refl, sym, ap, true≢false, Bool, true, false, ◌||◌, cond, ◌*◌, T, Float, nan, inf, fin, binary64, up, down, lt, eq, is_nan, to_bits}
+use Rattle.std.specs.Float.{float_with_sign}
 use Rattle.floats.specs.Fractions.{signed→eq}
 use Rattle.floats.specs.Definitions.{magnitude, larger, smaller}
 
@@ -9,12 +9,6 @@ unfolding magnitude float_with_sign
 without_sign nan = refl
 without_sign (inf s) = refl
 without_sign (fin s m e) = refl
-
-pub is_finite : (x : Float) → float_is_finite x ≡ finite x
-unfolding float_is_finite
-is_finite nan = refl
-is_finite (inf s) = refl
-is_finite (fin s m e) = refl
 
 -- what equals itself by its own test
 number : (x : Float) → is_nan x ≡ false → eq x x ≡ true

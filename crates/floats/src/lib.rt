@@ -16,11 +16,10 @@ pub fn magnitude(x: f64) -> f64
 }
 
 // Neither a NaN nor an infinity.
-#[tactic(auto, using(crate::proofs::Methods::is_finite))]
 pub fn finite(x: f64) -> bool
     ensures { result ≡ finite x }
 {
-    x.is_finite()
+    x - x == 0.0
 }
 
 // x between lo and hi; a NaN goes to hi.
@@ -56,7 +55,7 @@ pub fn from_bits(n: u64) -> f64
     ensures { result ≡ of_bits binary64 n }
 {
     if (n & 0x7fff_ffff_ffff_ffff) > 0x7ff0_0000_0000_0000 {
-        f64::NAN
+        0.0 / 0.0
     } else {
         f64::from_bits(n)
     }

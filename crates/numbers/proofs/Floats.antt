@@ -1,5 +1,5 @@
 -- What the tests of `sqrt` say of its argument.
-use Rattle.floats.specs.Prelude.{◌≡◌, refl, sym, ap, ◌∙◌, subst, ◌⊎◌, inl, inr, Bool, true, false, not, ◌&&◌, ◌||◌, Bool_beq, true≢false, ℕ, zero, suc, ◌+◌, ◌*◌, ◌/◌, ◌%◌, ◌≤◌, ◌<◌, zero-mul, mul-one, mul-pos, zero-lt-suc, arith, ℤ, T, ltb, eqb, lt→ltb, eqb→eq, bit_and, and_mask, Float, nan, inf, fin, binary64, up, down, eq, lt, is_nan, fits, of_bits, to_bits, up_pos, and_l}
+use Rattle.floats.specs.Prelude.{◌≡◌, refl, sym, ap, ◌∙◌, subst, ◌⊎◌, inl, inr, Bool, true, false, not, ◌&&◌, ◌||◌, Bool_beq, true≢false, ℕ, zero, suc, ◌+◌, ◌*◌, ◌/◌, ◌%◌, ◌≤◌, ◌<◌, zero-mul, mul-one, mul-pos, zero-lt-suc, arith, ℤ, T, ltb, eqb, lt→ltb, eqb→eq, bit_and, and_mask, Float, nan, inf, fin, binary64, up, down, eq, lt, div, is_nan, fits, of_bits, to_bits, up_pos, and_l}
 use lib.Ieee.Bits.{is_true}
 use Rattle.numbers.specs.Root.{root}
 use Rattle.numbers.proofs.RootPattern.{Read, read}
@@ -35,8 +35,8 @@ zero_root (fin s zero e) h = refl
 zero_root (fin s (suc m) e) h = absurd (no_zero (suc m * up e * 1) (size_pos m e) (eqb→eq (suc m * up e * 1) (0 * down e) (and_l (eqb (suc m * up e * 1) (0 * down e)) (Bool_beq s false || eqb (suc m * up e * 1) 0) (subst T (sym h) tt)) ∙ zero-mul (down e)))
 
 -- neither above zero nor equal to it
-pub no_root : (x : Float) → lt (of_bits binary64 0) x ≡ false → eq x (of_bits binary64 0) ≡ false → of_bits binary64 0x7ff8_0000_0000_0000 ≡ root binary64 x
-unfolding eq lt of_bits root
+pub no_root : (x : Float) → lt (of_bits binary64 0) x ≡ false → eq x (of_bits binary64 0) ≡ false → div binary64 (of_bits binary64 0) (of_bits binary64 0) ≡ root binary64 x
+unfolding eq lt of_bits root div
 no_root nan h k = refl
 no_root (inf true) h k = refl
 no_root (inf false) h k = absurd (true≢false h)

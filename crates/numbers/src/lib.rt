@@ -18,5 +18,5 @@ pub use crate::sines::{cos, sin, tan};
 fn nan() -> f64
     ensures { result ≡ nan }
 {
-    f64::NAN
+    0.0 / 0.0
 }

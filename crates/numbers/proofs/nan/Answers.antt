@@ -1,7 +1,7 @@
--- The bits of the constant are a NaN's.
-use Rattle.floats.specs.Prelude.{refl, of_bits}
+-- 0 / 0 is no number.
+use Rattle.floats.specs.Prelude.{refl, div, of_bits}
 use Rattle.numbers.proofs.nan.Goals as goal
 
 pub returns : goal.returns
-unfolding of_bits
+unfolding div of_bits
 returns c = refl
