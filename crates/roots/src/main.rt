@@ -5,8 +5,7 @@
 
 use draws::next;
 use std::io;
-use std::io::{Stdin, Stdout};
-use streams::Input;
+use std::io::{Read, Stdin, Stdout};
 
 // The bits of the root of the float with the bits x.
 fn put(stdout: Stdout, x: u64) -> io::Result<()> {
@@ -136,7 +135,8 @@ fn with(count: u64, byte: u8) -> Option<u64> {
 
 // How many times to draw, where the standard input is nothing or a count.
 fn read(stdin: Stdin) -> io::Result<Option<u64>> {
-    let mut bytes = Input::from(stdin).take(4096).peekable();
+    // A byte at a time: the input is a few digits, and a buffer would be most of the stack that the program takes.
+    let mut bytes = stdin.bytes().take(4096).peekable();
     if bytes.peek().is_none() {
         return Ok(Some(1000));
     }
