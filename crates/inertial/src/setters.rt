@@ -17,6 +17,7 @@ use tilt::{Rest, RestParams};
 
 impl Inertial {
     // How slowly the tilt follows the accelerometer, in seconds.
+    #[inline(always)]
     #[tactic(auto, unfolding(crate::specs::Setters::set_tau_acc))]
     pub fn set_tau_acc(self, tau_acc: f64) -> Updated<Inertial>
         ensures { told_of result ≡ set_tau_acc binary64 self tau_acc }
@@ -39,6 +40,7 @@ impl Inertial {
     }
 
     // The half with a new time constant, where all that it stores is finite.
+    #[inline(always)]
     #[tactic(auto, unfolding(crate::specs::Setters::retuned))]
     fn retuned(self, tau_acc: f64) -> Updated<Inertial>
         ensures { told_of result ≡ retuned binary64 self tau_acc }

@@ -43,6 +43,7 @@ impl BeforeGyr {
     }
 
     // A gyro sample that lasted ts seconds.
+    #[inline(always)]
     #[tactic(auto, unfolding(crate::specs::Gyr::update_gyr))]
     pub fn update(self, gyr: Vector, ts: f64) -> AfterGyr
         ensures { after_gyr result ≡ update_gyr binary64 self.rest self.params self.gyr_ts self.coeffs self.quat self.bias gyr ts }
@@ -59,6 +60,7 @@ impl BeforeGyr {
     }
 
     // The step on a sample and an interval that are taken.
+    #[inline(always)]
     #[tactic(auto, unfolding(crate::specs::Gyr::gyr_step))]
     fn step(self, gyr: Vector, ts: f64) -> AfterGyr
         ensures { after_gyr result ≡ gyr_step binary64 self.rest self.params self.gyr_ts self.coeffs self.quat self.bias gyr ts }
