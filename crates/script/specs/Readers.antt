@@ -5,7 +5,7 @@ use Rattle.script.specs.Lines.{line_with}
 use Rattle.script.specs.declared.reader.Reader.{Reader}
 
 -- a space, a tab, a carriage return
-abbrev is_blank : ℕ → Bool
+abbrev pub is_blank : ℕ → Bool
 is_blank byte = eqb byte 32 || eqb byte 9 || eqb byte 13
 
 -- the word has ended, if there is one
